@@ -1,0 +1,9 @@
+//! Reads fields from a payload, and writes them into one.
+#![tactic(auto)]
+
+mod cursor;
+mod put;
+
+pub use cursor::Cursor;
+pub use mu_model_wire::{Refusal, Why};
+pub use put::{Payload, put_octets, put_pattern, put_u8, put_u16, put_u32, put_u40, put_u64};

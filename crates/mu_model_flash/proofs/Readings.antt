@@ -1,0 +1,155 @@
+-- The same run, read as other states.
+use Rattle.std.proofs.Common.{◌≡◌, ◌⊎◌, inl, inr, ⊎_elim, ℕ, zero, suc, ◌+◌, ◌-◌, ◌<◌, ◌≤◌, Bool, true, false, IsTrue, Option, Some, None, Result, Ok, Err, IsErr, List, [], ◌∷◌, ◌++◌, length, refl, sym, ◌∙◌, ap, subst, arith}
+use Rattle.mu_model_flash.specs.declared.Pattern.{Pattern}
+use Rattle.mu_model_flash.specs.declared.Pattern.TheVariants.{Old, New, Made}
+use Rattle.mu_model_flash.specs.declared.Armed.{Armed}
+use Rattle.mu_model_flash.specs.Flash.{Seen, fallen, IsBefore}
+use Rattle.mu_model_flash.specs.Run.{Reading, exact, either, state_at, last_of, Passing, InPart, ByPattern, Ran, WentOff, Broke, Runs, Goes}
+use Rattle.mu_model_flash.proofs.Compose.{leaves_more, last_append, then_ran, then_broke, broke_more}
+
+-- each state of the one run is a state of the other, and so is what may stand between two
+abbrev pub Refines : {S T : Type 0} → Reading S → Reading T → S → List S → T → List T → Type 0
+Refines R Q s [] t [] = (c : List ℕ) → R.Is s c → Q.Is t c
+Refines R Q s (x ∷ xs) t (y ∷ ys) = ((c : List ℕ) → R.Is s c → Q.Is t c) × ((c : List ℕ) → R.Torn s x c → Q.Torn t y c) × Refines R Q x xs y ys
+Refines R Q s [] t (y ∷ ys) = ⊥
+Refines R Q s (x ∷ xs) t [] = ⊥
+
+module _ {S T : Type 0} (R : Reading S) (Q : Reading T) where
+  same_length : (s : S) (xs : List S) (t : T) (ys : List T) → Refines R Q s xs t ys → length xs ≡ length ys
+  same_length s [] t [] r = refl
+  same_length s (x ∷ xs) t (y ∷ ys) r = ap (λ (n : ℕ). suc n) (same_length x xs y ys r.2)
+  same_length s [] t (y ∷ ys) r = absurd r
+  same_length s (x ∷ xs) t [] r = absurd r
+
+  first : (s : S) (xs : List S) (t : T) (ys : List T) (c : List ℕ) → Refines R Q s xs t ys → R.Is s c → Q.Is t c
+  first s [] t [] c r h = r c h
+  first s (x ∷ xs) t (y ∷ ys) c r h = r.0 c h
+  first s [] t (y ∷ ys) c r h = absurd r
+  first s (x ∷ xs) t [] c r h = absurd r
+
+  last : (s : S) (xs : List S) (t : T) (ys : List T) (c : List ℕ) → Refines R Q s xs t ys → R.Is (last_of s xs) c → Q.Is (last_of t ys) c
+  last s [] t [] c r h = r c h
+  last s (x ∷ xs) t (y ∷ ys) c r h = last x xs y ys c r.2 h
+  last s [] t (y ∷ ys) c r h = absurd r
+  last s (x ∷ xs) t [] c r h = absurd r
+
+  pub passing : (s : S) (xs : List S) (t : T) (ys : List T) (c : List ℕ) → Refines R Q s xs t ys → Passing R s xs c → Passing Q t ys c
+  passing s [] t [] c r h = r c h
+  passing s (x ∷ xs) t (y ∷ ys) c r (inl here) = inl (r.0 c here)
+  passing s (x ∷ xs) t (y ∷ ys) c r (inr (inl torn)) = inr (inl (r.1 c torn))
+  passing s (x ∷ xs) t (y ∷ ys) c r (inr (inr on)) = inr (inr (passing x xs y ys c r.2 on))
+  passing s [] t (y ∷ ys) c r h = absurd r
+  passing s (x ∷ xs) t [] c r h = absurd r
+
+  in_part : (s : S) (xs : List S) (t : T) (ys : List T) (j : ℕ) (c : List ℕ) → Refines R Q s xs t ys → InPart R s xs j c → InPart Q t ys j c
+  in_part s xs t ys zero c r h = first s xs t ys c r h
+  in_part s [] t [] (suc j) c r h = absurd h
+  in_part s (x ∷ xs) t (y ∷ ys) (suc zero) c r (inl torn) = inl (r.1 c torn)
+  in_part s (x ∷ xs) t (y ∷ ys) (suc zero) c r (inr done) = inr (first x xs y ys c r.2 done)
+  in_part s (x ∷ xs) t (y ∷ ys) (suc (suc j)) c r h = in_part x xs y ys (suc j) c r.2 h
+  in_part s [] t (y ∷ ys) (suc j) c r h = absurd r
+  in_part s (x ∷ xs) t [] (suc j) c r h = absurd r
+
+  at : (s : S) (xs : List S) (t : T) (ys : List T) (j : ℕ) (c : List ℕ) → Refines R Q s xs t ys → R.Is (state_at s xs j) c → Q.Is (state_at t ys j) c
+  at s xs t ys zero c r h = first s xs t ys c r h
+  at s [] t [] (suc j) c r h = r c h
+  at s (x ∷ xs) t (y ∷ ys) (suc j) c r h = at x xs y ys j c r.2 h
+  at s [] t (y ∷ ys) (suc j) c r h = absurd r
+  at s (x ∷ xs) t [] (suc j) c r h = absurd r
+
+  by_pattern : (s : S) (xs : List S) (t : T) (ys : List T) (j : ℕ) (p : Pattern) (c : List ℕ) → Refines R Q s xs t ys → ByPattern R s xs j p c → ByPattern Q t ys j p c
+  by_pattern s xs t ys j Old c r h = at s xs t ys (j - 1) c r h
+  by_pattern s xs t ys j New c r h = at s xs t ys j c r h
+  by_pattern s xs t ys j (Made seed) c r h = tt
+
+  -- where nothing is told the states don't matter, but their number does
+  pub ran_as : (s : S) (xs : List S) (t : T) (ys : List T) (a b : Seen) → length xs ≡ length ys → (IsTrue a.told → Refines R Q s xs t ys) → Ran R s xs a b → Ran Q t ys a b
+  ran_as s xs t ys a b n r ab =
+      record {
+        keeps = ab.keeps;
+        was_on = ab.was_on;
+        on = ab.on;
+        unreached = subst (λ (k : ℕ). IsBefore k a.armed) n ab.unreached;
+        armed = ab.armed ∙ ap (λ (k : ℕ). fallen a.armed k) n;
+        clock = λ told. omega (arith, ab.clock told, n);
+        ends = λ told. last s xs t ys b.octets (r told) (ab.ends told);
+        leaves = λ told. leaves_more a b _ _ (λ c. passing s xs t ys c (r told)) (ab.leaves told);
+      }
+
+  pub broke_as : (s : S) (xs : List S) (t : T) (ys : List T) (a b : Seen) → length xs ≡ length ys → (IsTrue a.told → Refines R Q s xs t ys) → Broke R s xs a b → Broke Q t ys a b
+  broke_as s xs t ys a b n r ab =
+      record {
+        keeps = ab.keeps;
+        rose = ab.rose;
+        cause = ab.cause;
+        begun = ab.begun;
+        at_most = omega (arith, ab.at_most, n);
+        clock = ab.clock;
+        ends = λ told. in_part s xs t ys ab.begun b.octets (r told) (ab.ends told);
+        leaves = λ told. leaves_more a b _ _ (λ c. passing s xs t ys c (r told)) (ab.leaves told);
+        stays_on = ab.stays_on;
+        went_off = λ was off.
+            let w = ab.went_off was off in
+            record { armed = w.armed; was = w.was; here = w.here; none = w.none; left = λ told. by_pattern s xs t ys ab.begun w.armed.pattern b.octets (r told) (w.left told) };
+        stays_off = ab.stays_off;
+      }
+
+refines_same : {S : Type 0} (R : Reading S) (s : S) (xs : List S) → Refines R R s xs s xs
+refines_same R s [] = λ c h. h
+refines_same R s (x ∷ xs) = (λ c h. h, λ c h. h, refines_same R x xs)
+
+-- one operation, between octets that are known where they are told
+module _ (s s' t t' : List ℕ) (a b : Seen) (same : IsTrue a.told → s ≡ t) (same' : IsTrue a.told → s' ≡ t') where
+  one : IsTrue a.told → Refines exact exact s (s' ∷ []) t (t' ∷ [])
+  one told =
+      subst (λ (o : List ℕ). Refines exact exact s (s' ∷ []) o (t' ∷ [])) (same told)
+      (subst (λ (o : List ℕ). Refines exact exact s (s' ∷ []) s (o ∷ [])) (same' told) (refines_same exact s (s' ∷ [])))
+
+  pub ran_from : Ran exact s (s' ∷ []) a b → Ran exact t (t' ∷ []) a b
+  ran_from r = ran_as exact exact s (s' ∷ []) t (t' ∷ []) a b refl one r
+
+  pub broke_from : Broke exact s (s' ∷ []) a b → Broke exact t (t' ∷ []) a b
+  broke_from r = broke_as exact exact s (s' ∷ []) t (t' ∷ []) a b refl one r
+
+-- a flash whose calls fail only by an armed operation, with none armed and the power on
+pub never_broke : {S : Type 0} (R : Reading S) (s : S) (xs : List S) (a b : Seen) → IsTrue a.only_armed → a.armed ≡ None → a.off ≡ false → Broke R s xs a b → ⊥
+never_broke R s xs a b only none on broke =
+    let w = broke.went_off on (broke.cause only) in
+    cc (w.was, none)
+
+-- the same for a call that may fail
+module _ {T X : Type 0} where
+  pub then_runs : {S : Type 0} (R : Reading S) (s : S) (xs ys : List S) (a b c : Seen) (result : Result T X) → Ran R s xs a b → Runs R (last_of s xs) ys b c result → Runs R s (xs ++ ys) a c result
+  then_runs R s xs ys a b c (Ok v) ab bc = then_ran R s xs ys a b c ab bc
+  then_runs R s xs ys a b c (Err e) ab bc = then_broke R s xs ys a b c ab bc
+
+  pub runs_as : {S U : Type 0} (R : Reading S) (Q : Reading U) (s : S) (xs : List S) (t : U) (ys : List U) (a b : Seen) (result : Result T X) → length xs ≡ length ys → (IsTrue a.told → Refines R Q s xs t ys) → Runs R s xs a b result → Runs Q t ys a b result
+  runs_as R Q s xs t ys a b (Ok v) n r ab = ran_as R Q s xs t ys a b n r ab
+  runs_as R Q s xs t ys a b (Err e) n r ab = broke_as R Q s xs t ys a b n r ab
+
+  pub runs_from : (s s' t t' : List ℕ) (a b : Seen) (result : Result T X) → (IsTrue a.told → s ≡ t) → (IsTrue a.told → s' ≡ t') → Runs exact s (s' ∷ []) a b result → Runs exact t (t' ∷ []) a b result
+  runs_from s s' t t' a b (Ok v) same same' r = ran_from s s' t t' a b same same' r
+  runs_from s s' t t' a b (Err e) same same' r = broke_from s s' t t' a b same same' r
+
+  -- what a `?` hands on
+  pub broke_runs : {S : Type 0} (R : Reading S) (s : S) (xs : List S) (a b : Seen) (result : Result T X) → IsErr result → Broke R s xs a b → Runs R s xs a b result
+  broke_runs R s xs a b (Ok v) err ab = absurd (cc err)
+  broke_runs R s xs a b (Err e) err ab = ab
+
+module _ {T X S : Type 0} (R : Reading S) (ok : T → Seen) (err : X → Seen) (Kept : T → S → Type 0) (OfFlash : X → Type 0) where
+  pub then_goes : (s : S) (xs ys : List S) (a b : Seen) (result : Result T X) → Ran R s xs a b → Goes R (last_of s xs) ys b ok err Kept OfFlash result → Goes R s (xs ++ ys) a ok err Kept OfFlash result
+  then_goes s xs ys a b (Ok t) ab bc = (then_ran R s xs ys a b (ok t) ab bc.0, subst (λ (e : S). Kept t e) (sym (last_append R s xs ys)) bc.1)
+  then_goes s xs ys a b (Err e) ab bc = λ of. then_broke R s xs ys a b (err e) ab (bc of)
+
+  pub broke_goes : (s : S) (xs ys : List S) (a : Seen) (e : X) (result : Result T X) → result ≡ Err e → (OfFlash e → Broke R s xs a (err e)) → Goes R s (xs ++ ys) a ok err Kept OfFlash result
+  broke_goes s xs ys a e result is broke = subst (λ (r : Result T X). Goes R s (xs ++ ys) a ok err Kept OfFlash r) (sym is) (λ of. broke_more R s xs ys a (err e) (broke of))
+
+-- what stands for a state in one way does so in another
+module _ {S : Type 0} (A B : S → List ℕ → Type 0) (weak : (s : S) (c : List ℕ) → A s c → B s c) where
+  pub refines_weaker : (s : S) (xs : List S) → Refines (either A) (either B) s xs s xs
+  refines_weaker s [] = weak s
+  refines_weaker s (x ∷ xs) = (weak s, λ c t. ⊎_elim (λ l. inl (weak s c l)) (λ r. inr (weak x c r)) t, refines_weaker x xs)
+
+  pub goes_weaker : {T X : Type 0} (s : S) (xs : List S) (a : Seen) (ok : T → Seen) (err : X → Seen) (Kept : T → S → Type 0) (OfFlash : X → Type 0) (result : Result T X) → Goes (either A) s xs a ok err Kept OfFlash result → Goes (either B) s xs a ok err Kept OfFlash result
+  goes_weaker s xs a ok err Kept OfFlash (Ok t) r = (ran_as (either A) (either B) s xs s xs a (ok t) refl (λ told. refines_weaker s xs) r.0, r.1)
+  goes_weaker s xs a ok err Kept OfFlash (Err e) r = λ of. broke_as (either A) (either B) s xs s xs a (err e) refl (λ told. refines_weaker s xs) (r of)

@@ -1,0 +1,383 @@
+-- What was read has its fields in their ranges, and its spelling is as long as what was read.
+use Rattle.std.proofs.Common.{◌≡◌, ℕ, zero, suc, ◌-◌, ◌+◌, ◌*◌, ◌/◌, ◌%◌, ◌^◌, ◌≤◌, ◌<◌, Bool, true, false, ltb, leb, eqb, cond, get_or, List, [], ◌∷◌, ◌++◌, length, take, drop, Option, Some, None, Result, Ok, Err, refl, sym, ap, subst, ◌∙◌, append_assoc, arith, inl, inr, length-append, ◌&&◌, ◌||◌, ◌⊎◌, not}
+use Rattle.mu_model_wire.specs.Patterns.{pattern_length, pattern_number, follows, within, pattern_spelling}
+use Rattle.mu_model_wire.specs.Sound.{field_holds, entry_holds, has_field, fields_hold, field_leads, field_avoids, leads, avoids, rows_hold, opcode_holds}
+use Rattle.mu_model_wire.proofs.Laws.{field_some, row_holds}
+use Rattle.std.proofs.lemmas.Bool.{ltb-true, ltb-false, lt-ltb, le-ltb, le-leb, leb-true, leb-false, and_from, and_parts, eqb-true, eqb-false, cases_lt, cases_Bool, not-true}
+use Rattle.std.proofs.lemmas.List.{take_at, drop_at, take-append-drop, append-nil, nil_from_length, length-take, get_or-take}
+use Rattle.std.proofs.Common.{length-drop}
+use Rattle.std.specs.Prelude.{MatchBool}
+use Rattle.byteorder.specs.Endian.{little_bytes, little_number}
+use Rattle.byteorder.specs.Numbers.{length-bytes_low_first}
+use Rattle.mu_model_wire.specs.declared.Refusal.{Refusal}
+use Rattle.mu_model_wire.specs.declared.Why.{Why}
+use Rattle.mu_model_wire.specs.declared.Why.TheVariants.{Opcode, Short, Value, Long}
+use Rattle.mu_model_wire.specs.Fields.{Part, part, rfu, Field, num, split, counted, whole, pattern, Fields, end, rest, repeated, ◌▹◌, when, where_left, Row, Shown, number, octets as shown_octets, Message}
+use Rattle.mu_model_wire.specs.Reading.{◌>>=◌, Left, after, refuse, word_at, octets_at, number_at, counted_at, pattern_at, or_value, parts_in, parts_of, field_at, entry_at, entries_at, rest_at, fields_at, opcode_at, fields_of, row_at, message_at, value_of, is_one_of, nothing_left}
+use Rattle.mu_model_wire.specs.Spelling.{joined, begins_with, part_count, shown_count, PartsFit, FieldFits, EntryFits, EntriesFit, RestFits, FieldsFit, RowFits, Fits, field_spelling, entry_spelling, entries_spelling, fields_spelling, opcode_spelling, row_spelling, spelling}
+
+-- the value of a step that was not refused
+bind_ok : {A B : Type 0} (r : Result A Refusal) (f : A → Result B Refusal) (y : B) → (r >>= f) ≡ Ok y → (x : A) × (r ≡ Ok x) × (f x ≡ Ok y)
+bind_ok (Ok x) f y e = (x, refl, e)
+bind_ok (Err d) f y e = absurd cc
+
+-- a test that was passed
+passed : {A : Type 0} (b : Bool) (d : Refusal) (x y : A) → cond b (Ok x) (Err d) ≡ Ok y → (b ≡ true) × (x ≡ y)
+passed true d x y e = (refl, cc)
+passed false d x y e = absurd cc
+
+not_failed : {A : Type 0} (b : Bool) (d : Refusal) (x y : A) → cond b (Err d) (Ok x) ≡ Ok y → (b ≡ false) × (x ≡ y)
+not_failed true d x y e = absurd cc
+not_failed false d x y e = (refl, cc)
+
+short : ℕ → Refusal
+short at = record { at = at; why = Short }
+
+-- the octets that are left after so many
+abbrev Took : ℕ → Left → Left → Type 0
+Took n old new = n + length new.octets ≡ length old.octets
+
+word_takes : (k : ℕ) (left : Left) (x : ℕ × Left) → word_at k left ≡ Ok x → Took k left x.1
+unfolding word_at
+word_takes k left x e =
+    let g = not_failed (ltb (length left.octets) k) (record { at = left.at; why = Short }) (little_number k left.octets, after k left) x e in
+    let long = ltb-false (length left.octets) k g.0 in
+    subst (λ (y : ℕ × Left). Took k left y.1) g.1 (omega (arith, long, length-drop k left.octets))
+
+octets_take : (n : ℕ) (left : Left) (x : List ℕ × Left) → octets_at n left ≡ Ok x → (length x.0 ≡ n) × Took n left x.1
+unfolding octets_at
+octets_take n left x e =
+    let g = not_failed (ltb (length left.octets) n) (record { at = left.at; why = Short }) (take n left.octets, after n left) x e in
+    let long = ltb-false (length left.octets) n g.0 in
+    subst (λ (y : List ℕ × Left). (length y.0 ≡ n) × Took n left y.1) g.1 (omega (arith, long, length-take n left.octets), omega (arith, long, length-drop n left.octets))
+
+-- a pattern that is taken is the shortest one
+-- a pattern that is taken is the shortest one
+one_fits : (a n : ℕ) → 1 ≡ pattern_length a → pattern_number (a ∷ []) ≡ Some n → (n ≤ 0xFFFF) × (length (pattern_spelling n) ≡ 1)
+one_fits a n len e = grind (arith, len, e)
+
+two_fits : (a b n : ℕ) → 2 ≡ pattern_length a → pattern_number (a ∷ b ∷ []) ≡ Some n → (n ≤ 0xFFFF) × (length (pattern_spelling n) ≡ 2)
+two_fits a b n len e = grind (arith, len, e)
+
+three_fits : (a b c n : ℕ) → 3 ≡ pattern_length a → pattern_number (a ∷ b ∷ c ∷ []) ≡ Some n → (n ≤ 0xFFFF) × (length (pattern_spelling n) ≡ 3)
+three_fits a b c n len e = grind (arith, len, e)
+
+pattern_fits : (os : List ℕ) (first n : ℕ) → (os ≡ [] → ⊥) → get_or os 0 0 ≡ first → length os ≡ pattern_length first → pattern_number os ≡ Some n → (n ≤ 0xFFFF) × (length (pattern_spelling n) ≡ length os)
+pattern_fits [] first n some front len e = absurd (some refl)
+pattern_fits (a ∷ []) first n some front len e = one_fits a n (len ∙ ap pattern_length (sym front)) e
+pattern_fits (a ∷ b ∷ []) first n some front len e = two_fits a b n (len ∙ ap pattern_length (sym front)) e
+pattern_fits (a ∷ b ∷ c ∷ []) first n some front len e = three_fits a b c n (len ∙ ap pattern_length (sym front)) e
+pattern_fits (a ∷ b ∷ c ∷ d ∷ os) first n some front len e = absurd cc
+
+-- the number and the octets that a pattern took
+value_ok : (at : ℕ) (o : Option ℕ) (left : Left) (x : ℕ × Left) → or_value at o left ≡ Ok x → (o ≡ Some x.0) × (left ≡ x.1)
+value_ok at (Some n) left x e = let is : (n, left) ≡ x = cc in (ap (λ (y : ℕ × Left). Some y.0) is, ap (λ (y : ℕ × Left). y.1) is)
+value_ok at None left x e = absurd cc
+
+some_number : (os : List ℕ) (n : ℕ) → os ≡ [] → pattern_number os ≡ Some n → ⊥
+some_number [] n none e = absurd cc
+some_number (a ∷ os) n none e = absurd cc
+
+first_taken : (n : ℕ) (left : Left) (x : List ℕ × Left) → octets_at n left ≡ Ok x → (n ≡ 0 → ⊥) → get_or x.0 0 0 ≡ get_or left.octets 0 0
+unfolding octets_at
+first_taken n left x e some =
+    let g = not_failed (ltb (length left.octets) n) (record { at = left.at; why = Short }) (take n left.octets, after n left) x e in
+    let lt : 0 < n = omega arith in
+    subst (λ (y : List ℕ × Left). get_or y.0 0 0 ≡ get_or left.octets 0 0) g.1 (get_or-take n left.octets 0 0 lt)
+
+first_word : (left : Left) (x : ℕ × Left) → word_at 1 left ≡ Ok x → x.0 ≡ get_or left.octets 0 0
+unfolding word_at
+first_word left x e =
+    let g = not_failed (ltb (length left.octets) 1) (record { at = left.at; why = Short }) (little_number 1 left.octets, after 1 left) x e in
+    subst (λ (y : ℕ × Left). y.0 ≡ get_or left.octets 0 0) g.1 (omega arith)
+
+pattern_takes : (left : Left) (x : ℕ × Left) → pattern_at left ≡ Ok x → (x.0 ≤ 0xFFFF) × Took (length (pattern_spelling x.0)) left x.1
+unfolding pattern_at
+pattern_takes left x e =
+    let a = bind_ok (word_at 1 left) (λ first. octets_at (pattern_length first.0) left >>= λ taken. or_value left.at (pattern_number taken.0) taken.1) x e in
+    let b = bind_ok (octets_at (pattern_length a.0.0) left) (λ taken. or_value left.at (pattern_number taken.0) taken.1) x a.2 in
+    let v = value_ok left.at (pattern_number b.0.0) b.0.1 x b.2 in
+    let t = octets_take (pattern_length a.0.0) left b.0 b.1 in
+    let some : (b.0.0 ≡ [] → ⊥) = λ (none : b.0.0 ≡ []). some_number b.0.0 x.0 none v.0 in
+    let n0 : (pattern_length a.0.0 ≡ 0 → ⊥) = λ (none : pattern_length a.0.0 ≡ 0). some (nil_from_length b.0.0 (t.0 ∙ none)) in
+    let f = pattern_fits b.0.0 a.0.0 x.0 some (first_taken (pattern_length a.0.0) left b.0 b.1 n0 ∙ sym (first_word left a.0 a.1)) t.0 v.0 in
+    (f.0, rw (← v.1) (omega (arith, f.1, t.0, t.1)))
+
+parts_fit : (ps : List Part) (n : ℕ) (more : List Shown) → parts_in ps n ≡ true → PartsFit ps (parts_of ps n ++ more)
+parts_fit [] n more e = tt
+parts_fit (rfu w ∷ ps) n more e = parts_fit ps (n / 2 ^ w) more e
+parts_fit (part name w least most ∷ ps) n more e =
+    let h = and_parts (within least most (n % 2 ^ w)) (parts_in ps (n / 2 ^ w)) e in
+    let g = and_parts (leb least (n % 2 ^ w)) (leb (n % 2 ^ w) most) h.0 in
+    (refl, leb-true _ _ g.0, leb-true _ _ g.1, parts_fit ps (n / 2 ^ w) more h.1)
+
+parts_count : (ps : List Part) (n : ℕ) → length (parts_of ps n) ≡ part_count ps
+parts_count [] n = refl
+parts_count (rfu w ∷ ps) n = parts_count ps (n / 2 ^ w)
+parts_count (part name w least most ∷ ps) n = ap suc (parts_count ps (n / 2 ^ w))
+
+-- what a field that was read shows, before whatever else is shown
+record Taken (f : Field) (left after : Left) (shown more : List Shown) : Type 0 where
+  fits : FieldFits f (shown ++ more)
+  count : length shown ≡ shown_count f
+  took : Took (length (field_spelling f (shown ++ more))) left after
+
+number_takes : (k least most : ℕ) (left : Left) (x : ℕ × Left) → number_at k least most left ≡ Ok x → (least ≤ x.0) × (x.0 ≤ most) × Took k left x.1
+number_takes k least most left x e =
+    let b = bind_ok (word_at k left) (λ w. cond (within least most w.0) (Ok w) (refuse left.at Value)) x e in
+    let g = passed (within least most b.0.0) (record { at = left.at; why = Value }) b.0 x b.2 in
+    let h = and_parts (leb least b.0.0) (leb b.0.0 most) g.0 in
+    subst (λ (y : ℕ × Left). (least ≤ y.0) × (y.0 ≤ most) × Took k left y.1) g.1 (leb-true _ _ h.0, leb-true _ _ h.1, word_takes k left b.0 b.1)
+
+field_takes : (f : Field) (left : Left) (x : List Shown × Left) (more : List Shown) → field_at f left ≡ Ok x → Taken f left x.1 x.0 more
+field_takes (num name k least most) left x more e =
+    let b = bind_ok (number_at k least most left) (λ w. Ok (number name w.0 ∷ [], w.1)) x e in
+    let t = number_takes k least most left b.0 b.1 in
+    let is : (number name b.0.0 ∷ [], b.0.1) ≡ x = cc in
+    subst (λ (y : List Shown × Left). Taken (num name k least most) left y.1 y.0 more) is (record { fits = (refl, t.0, t.1); count = refl; took = omega (arith, t.2, length-bytes_low_first 0 k b.0.0) })
+field_takes (split k ps) left x more e =
+    let b = bind_ok (word_at k left) (λ w. cond (parts_in ps w.0) (Ok (parts_of ps w.0, w.1)) (refuse left.at Value)) x e in
+    let g = passed (parts_in ps b.0.0) (record { at = left.at; why = Value }) (parts_of ps b.0.0, b.0.1) x b.2 in
+    let made : Taken (split k ps) left b.0.1 (parts_of ps b.0.0) more = record { fits = parts_fit ps b.0.0 more g.0; count = parts_count ps b.0.0; took = omega (arith, word_takes k left b.0 b.1, length-bytes_low_first 0 k (joined ps (parts_of ps b.0.0 ++ more))) } in
+    subst (λ (y : List Shown × Left). Taken (split k ps) left y.1 y.0 more) g.1 made
+field_takes (counted name least most) left x more e =
+    let b = bind_ok (counted_at least most left) (λ taken. Ok (shown_octets name taken.0 ∷ [], taken.1)) x e in
+    let d = bind_ok (number_at 1 least most left) (λ w. octets_at w.0 w.1) b.0 b.1 in
+    let t = number_takes 1 least most left d.0 d.1 in
+    let o = octets_take d.0.0 d.0.1 b.0 d.2 in
+    let is : (shown_octets name b.0.0 ∷ [], b.0.1) ≡ x = cc in
+    subst (λ (y : List Shown × Left). Taken (counted name least most) left y.1 y.0 more) is (record { fits = (refl, omega (arith, t.0, o.0), omega (arith, t.1, o.0)); count = refl; took = omega (arith, t.2, o.0, o.1) })
+field_takes (whole name n) left x more e =
+    let b = bind_ok (octets_at n left) (λ taken. Ok (shown_octets name taken.0 ∷ [], taken.1)) x e in
+    let o = octets_take n left b.0 b.1 in
+    let is : (shown_octets name b.0.0 ∷ [], b.0.1) ≡ x = cc in
+    subst (λ (y : List Shown × Left). Taken (whole name n) left y.1 y.0 more) is (record { fits = (refl, o.0); count = refl; took = omega (arith, o.0, o.1) })
+field_takes (pattern name) left x more e =
+    let b = bind_ok (pattern_at left) (λ n. Ok (number name n.0 ∷ [], n.1)) x e in
+    let o = pattern_takes left b.0 b.1 in
+    let is : (number name b.0.0 ∷ [], b.0.1) ≡ x = cc in
+    subst (λ (y : List Shown × Left). Taken (pattern name) left y.1 y.0 more) is (record { fits = (refl, o.0); count = refl; took = o.1 })
+
+entry_takes : (fs : List Field) (left : Left) (x : List Shown × Left) → entry_at fs left ≡ Ok x → EntryFits fs x.0 × Took (length (entry_spelling fs x.0)) left x.1
+entry_takes [] left x e =
+    let is : ([], left) ≡ x = cc in
+    subst (λ (y : List Shown × Left). EntryFits [] y.0 × Took (length (entry_spelling [] y.0)) left y.1) is (refl, omega arith)
+entry_takes (f ∷ fs) left x e =
+    let b = bind_ok (field_at f left) (λ first. entry_at fs first.1 >>= λ others. Ok (first.0 ++ others.0, others.1)) x e in
+    let d = bind_ok (entry_at fs b.0.1) (λ others. Ok (b.0.0 ++ others.0, others.1)) x b.2 in
+    let t = field_takes f left b.0 d.0.0 b.1 in
+    let u = entry_takes fs b.0.1 d.0 d.1 in
+    let others : drop (shown_count f) (b.0.0 ++ d.0.0) ≡ d.0.0 = drop_at b.0.0 d.0.0 (shown_count f) t.count in
+    let is : (b.0.0 ++ d.0.0, d.0.1) ≡ x = cc in
+    let l = length-append (field_spelling f (b.0.0 ++ d.0.0)) (entry_spelling fs d.0.0) in
+    subst (λ (y : List Shown × Left). EntryFits (f ∷ fs) y.0 × Took (length (entry_spelling (f ∷ fs) y.0)) left y.1) is (rw others ((t.fits, u.0), omega (arith, l, t.took, u.1)))
+
+entry_some : (fs : List Field) (shown : List Shown) → has_field fs ≡ true → entry_holds fs ≡ true → EntryFits fs shown → 0 < length (entry_spelling fs shown)
+entry_some [] shown some holds fits = absurd cc
+entry_some (f ∷ fs) shown some holds fits =
+    let h = and_parts (field_holds f) (entry_holds fs) holds in
+    omega (arith, field_some f shown h.0 fits.0, length-append (field_spelling f shown) (entry_spelling fs (drop (shown_count f) shown)))
+
+entries_end : (fs : List Field) (left : Left) (es : List (List Shown)) → length left.octets ≡ 0 → es ≡ [] → EntriesFit fs es × (length (entries_spelling fs es) ≡ length left.octets)
+entries_end fs left es none is = rw is (tt, sym none)
+
+chosen : {A : Type 0} (b : Bool) (x y z : A) → cond b x y ≡ z → ((b ≡ true) × (x ≡ z)) ⊎ ((b ≡ false) × (y ≡ z))
+chosen true x y z e = inl (refl, e)
+chosen false x y z e = inr (refl, e)
+
+abbrev EntriesTaken : List Field → Left → List (List Shown) → Type 0
+EntriesTaken fs left es = EntriesFit fs es × (length (entries_spelling fs es) ≡ length left.octets)
+
+entries_take : (fuel : ℕ) (fs : List Field) (left : Left) (es : List (List Shown)) → has_field fs ≡ true → entry_holds fs ≡ true → length left.octets ≤ fuel → entries_at fuel fs left ≡ Ok es → EntriesTaken fs left es
+entries_take zero fs left es some holds enough e =
+    let is : [] ≡ es = cc in
+    entries_end fs left es (omega arith) (sym is)
+entries_take (suc fuel) fs left es some holds enough e =
+    elim (chosen (eqb (length left.octets) 0) (Ok []) (entry_at fs left >>= λ first. entries_at fuel fs first.1 >>= λ others. Ok (first.0 ∷ others)) (Ok es) e) [
+      | inl none ↦
+          let is : [] ≡ es = cc in
+          entries_end fs left es (eqb-true _ _ none.0) (sym is)
+      | inr more ↦
+          let b = bind_ok (entry_at fs left) (λ first. entries_at fuel fs first.1 >>= λ others. Ok (first.0 ∷ others)) es more.1 in
+          let d = bind_ok (entries_at fuel fs b.0.1) (λ others. Ok (b.0.0 ∷ others)) es b.2 in
+          let t = entry_takes fs left b.0 b.1 in
+          let s = entry_some fs b.0.0 some holds t.0 in
+          let u = entries_take fuel fs b.0.1 d.0 some holds (omega (arith, t.1, s)) d.1 in
+          let is : b.0.0 ∷ d.0 ≡ es = cc in
+          let l = length-append (entry_spelling fs b.0.0) (entries_spelling fs d.0) in
+          subst (λ (y : List (List Shown)). EntriesTaken fs left y) is ((t.0, u.0), omega (arith, l, t.1, u.1))
+    ]
+
+-- ---- fields
+
+field_begins : (f : Field) (name : ℕ) (shown : List Shown) → field_leads name f ≡ true → FieldFits f shown → begins_with name shown ≡ true
+field_begins (num n k least most) name [] leads fits = absurd fits
+field_begins (num n k least most) name (shown_octets m os ∷ shown) leads fits = absurd fits
+field_begins (num n k least most) name (number m v ∷ shown) leads fits = rw fits.0 leads
+field_begins (split k ps) name shown leads fits = absurd cc
+field_begins (counted n least most) name [] leads fits = absurd fits
+field_begins (counted n least most) name (number m v ∷ shown) leads fits = absurd fits
+field_begins (counted n least most) name (shown_octets m os ∷ shown) leads fits = rw fits.0 leads
+field_begins (whole n size) name [] leads fits = absurd fits
+field_begins (whole n size) name (number m v ∷ shown) leads fits = absurd fits
+field_begins (whole n size) name (shown_octets m os ∷ shown) leads fits = rw fits.0 leads
+field_begins (pattern n) name [] leads fits = absurd fits
+field_begins (pattern n) name (shown_octets m os ∷ shown) leads fits = absurd fits
+field_begins (pattern n) name (number m v ∷ shown) leads fits = rw fits.0 leads
+
+field_begins_not : (f : Field) (name : ℕ) (shown : List Shown) → field_avoids name f ≡ true → FieldFits f shown → begins_with name shown ≡ false
+field_begins_not (num n k least most) name [] avoids fits = absurd fits
+field_begins_not (num n k least most) name (shown_octets m os ∷ shown) avoids fits = absurd fits
+field_begins_not (num n k least most) name (number m v ∷ shown) avoids fits = rw fits.0 (not-true (eqb n name) avoids)
+field_begins_not (split k ps) name shown avoids fits = absurd cc
+field_begins_not (counted n least most) name [] avoids fits = absurd fits
+field_begins_not (counted n least most) name (number m v ∷ shown) avoids fits = absurd fits
+field_begins_not (counted n least most) name (shown_octets m os ∷ shown) avoids fits = rw fits.0 (not-true (eqb n name) avoids)
+field_begins_not (whole n size) name [] avoids fits = absurd fits
+field_begins_not (whole n size) name (number m v ∷ shown) avoids fits = absurd fits
+field_begins_not (whole n size) name (shown_octets m os ∷ shown) avoids fits = rw fits.0 (not-true (eqb n name) avoids)
+field_begins_not (pattern n) name [] avoids fits = absurd fits
+field_begins_not (pattern n) name (shown_octets m os ∷ shown) avoids fits = absurd fits
+field_begins_not (pattern n) name (number m v ∷ shown) avoids fits = rw fits.0 (not-true (eqb n name) avoids)
+
+begins : (fs : Fields) (name : ℕ) (before shown : List Shown) (entries : List (List Shown)) → leads name fs ≡ true → FieldsFit fs before shown entries → begins_with name shown ≡ true
+begins end name before shown entries leads fits = absurd cc
+begins (rest n least most) name before [] entries leads fits = absurd fits.0
+begins (rest n least most) name before (number m v ∷ shown) entries leads fits = absurd fits.0
+begins (rest n least most) name before (shown_octets m os ∷ s ∷ shown) entries leads fits = absurd fits.0
+begins (rest n least most) name before (shown_octets m os ∷ []) entries leads fits = rw fits.0.0 leads
+begins (repeated least fs) name before shown entries leads fits = absurd cc
+begins (f ▹ fs) name before shown entries leads fits = field_begins f name shown leads fits.0
+begins (when n values fs gs) name before shown entries leads fits = absurd cc
+begins (where_left k n fs gs) name before shown entries leads fits = absurd cc
+
+begins_not : (fs : Fields) (name : ℕ) (before shown : List Shown) (entries : List (List Shown)) → avoids name fs ≡ true → FieldsFit fs before shown entries → begins_with name shown ≡ false
+begins_not end name before shown entries avoids fits = rw fits.0 refl
+begins_not (rest n least most) name before [] entries avoids fits = absurd fits.0
+begins_not (rest n least most) name before (number m v ∷ shown) entries avoids fits = absurd fits.0
+begins_not (rest n least most) name before (shown_octets m os ∷ s ∷ shown) entries avoids fits = absurd fits.0
+begins_not (rest n least most) name before (shown_octets m os ∷ []) entries avoids fits = rw fits.0.0 (not-true (eqb n name) avoids)
+begins_not (repeated least fs) name before shown entries avoids fits = rw fits.0 refl
+begins_not (f ▹ fs) name before shown entries avoids fits = field_begins_not f name shown avoids fits.0
+begins_not (when n values fs gs) name before shown entries avoids fits = absurd cc
+begins_not (where_left k n fs gs) name before shown entries avoids fits = absurd cc
+
+-- fields whose reading gave x
+abbrev FieldsTaken : Fields → List Shown → Left → List Shown × List (List Shown) → Type 0
+FieldsTaken fs before left x = FieldsFit fs before x.0 x.1 × (length (fields_spelling fs before x.0 x.1) ≡ length left.octets)
+
+refused : {A : Type 0} (at : ℕ) (why : Why) (x : A) → refuse at why ≡ Ok x → ⊥
+refused at why x e = absurd cc
+
+rest_takes : (least most : ℕ) (left : Left) (os : List ℕ) → rest_at least most left ≡ Ok os → (least ≤ length os) × (length os ≤ most) × (length os ≡ length left.octets)
+rest_takes least most left os e =
+    elim (chosen (ltb (length left.octets) least) (refuse left.at Short) (cond (ltb most (length left.octets)) (refuse (left.at + most) Long) (Ok left.octets)) (Ok os) e) [
+      | inl lacks ↦ absurd (refused left.at Short os lacks.1)
+      | inr enough ↦
+          let g = not_failed (ltb most (length left.octets)) (record { at = left.at + most; why = Long }) left.octets os enough.1 in
+          subst (λ (y : List ℕ). (least ≤ length y) × (length y ≤ most) × (length y ≡ length left.octets)) g.1 (ltb-false _ _ enough.0, ltb-false _ _ g.0, refl)
+    ]
+
+when_takes : (b : Bool) (fs gs : Fields) (before : List Shown) (left : Left) (x : List Shown × List (List Shown)) → cond b (fields_at fs before left) (fields_at gs before left) ≡ Ok x
+    → (fields_at fs before left ≡ Ok x → FieldsTaken fs before left x) → (fields_at gs before left ≡ Ok x → FieldsTaken gs before left x)
+    → MatchBool b (FieldsFit fs before x.0 x.1) (FieldsFit gs before x.0 x.1) × (length (cond b (fields_spelling fs before x.0 x.1) (fields_spelling gs before x.0 x.1)) ≡ length left.octets)
+when_takes true fs gs before left x e first second = first e
+when_takes false fs gs before left x e first second = second e
+
+where_first : (name n : ℕ) (fs gs : Fields) (before : List Shown) (left : Left) (x : List Shown × List (List Shown)) → begins_with name x.0 ≡ true → FieldsTaken fs before left x → n ≤ length left.octets → FieldsTaken (where_left n name fs gs) before left x
+where_first name n fs gs before left x is t many = rw is ((t.0, omega (arith, t.1, many)), t.1)
+
+where_second : (name n : ℕ) (fs gs : Fields) (before : List Shown) (left : Left) (x : List Shown × List (List Shown)) → begins_with name x.0 ≡ false → FieldsTaken gs before left x → length left.octets < n → FieldsTaken (where_left n name fs gs) before left x
+where_second name n fs gs before left x is t few = rw is ((t.0, omega (arith, t.1, few)), t.1)
+
+pub fields_take : (fs : Fields) (before : List Shown) (left : Left) (x : List Shown × List (List Shown)) → fields_hold fs ≡ true → fields_at fs before left ≡ Ok x → FieldsTaken fs before left x
+fields_take end before left x holds e =
+    let g = passed (eqb (length left.octets) 0) (record { at = left.at; why = Long }) ([], []) x e in
+    subst (λ (y : List Shown × List (List Shown)). FieldsTaken end before left y) g.1 ((refl, refl), sym (eqb-true (length left.octets) 0 g.0))
+fields_take (rest name least most) before left x holds e =
+    let b = bind_ok (rest_at least most left) (λ all. Ok (shown_octets name all ∷ [], [])) x e in
+    let t = rest_takes least most left b.0 b.1 in
+    let is : (shown_octets name b.0 ∷ [], []) ≡ x = cc in
+    subst (λ (y : List Shown × List (List Shown)). FieldsTaken (rest name least most) before left y) is (((refl, t.0, t.1), refl), t.2)
+fields_take (repeated least fs) before left x holds e =
+    let h = and_parts (has_field fs) (entry_holds fs) holds in
+    elim (chosen (ltb (length left.octets) least) (refuse left.at Short) (entries_at (length left.octets) fs left >>= λ es. Ok ([], es)) (Ok x) e) [
+      | inl lacks ↦ absurd (refused left.at Short x lacks.1)
+      | inr some ↦
+          let b = bind_ok (entries_at (length left.octets) fs left) (λ es. Ok ([], es)) x some.1 in
+          let t = entries_take (length left.octets) fs left b.0 h.0 h.1 (omega arith) b.1 in
+          let is : ([], b.0) ≡ x = cc in
+          subst (λ (y : List Shown × List (List Shown)). FieldsTaken (repeated least fs) before left y) is ((refl, omega (arith, t.1, ltb-false _ _ some.0), t.0), t.1)
+    ]
+fields_take (f ▹ fs) before left x holds e =
+    let h = and_parts (field_holds f) (fields_hold fs) holds in
+    let b = bind_ok (field_at f left) (λ first. fields_at fs (first.0 ++ before) first.1 >>= λ others. Ok (first.0 ++ others.0, others.1)) x e in
+    let d = bind_ok (fields_at fs (b.0.0 ++ before) b.0.1) (λ others. Ok (b.0.0 ++ others.0, others.1)) x b.2 in
+    let t = field_takes f left b.0 d.0.0 b.1 in
+    let u = fields_take fs (b.0.0 ++ before) b.0.1 d.0 h.1 d.1 in
+    let mine : take (shown_count f) (b.0.0 ++ d.0.0) ≡ b.0.0 = take_at b.0.0 d.0.0 (shown_count f) t.count in
+    let others : drop (shown_count f) (b.0.0 ++ d.0.0) ≡ d.0.0 = drop_at b.0.0 d.0.0 (shown_count f) t.count in
+    let is : (b.0.0 ++ d.0.0, d.0.1) ≡ x = cc in
+    let l = length-append (field_spelling f (b.0.0 ++ d.0.0)) (fields_spelling fs (b.0.0 ++ before) d.0.0 d.0.1) in
+    subst (λ (y : List Shown × List (List Shown)). FieldsTaken (f ▹ fs) before left y) is (rw (mine, others) ((t.fits, u.0), omega (arith, l, t.took, u.1)))
+fields_take (when name values fs gs) before left x holds e =
+    let h = and_parts (fields_hold fs) (fields_hold gs) holds in
+    when_takes (is_one_of values (value_of name before)) fs gs before left x e (λ (r : fields_at fs before left ≡ Ok x). fields_take fs before left x h.0 r) (λ (r : fields_at gs before left ≡ Ok x). fields_take gs before left x h.1 r)
+fields_take (where_left n name fs gs) before left x holds e =
+    let h = and_parts (fields_hold fs && fields_hold gs) (leads name fs && avoids name gs) holds in
+    let k = and_parts (fields_hold fs) (fields_hold gs) h.0 in
+    let a = and_parts (leads name fs) (avoids name gs) h.1 in
+    elim (chosen (ltb (length left.octets) n) (fields_at gs before left) (fields_at fs before left) (Ok x) e) [
+      | inl few ↦
+          let t = fields_take gs before left x k.1 few.1 in
+          where_second name n fs gs before left x (begins_not gs name before x.0 x.1 a.1 t.0) t (ltb-true _ _ few.0)
+      | inr many ↦
+          let t = fields_take fs before left x k.0 many.1 in
+          where_first name n fs gs before left x (begins fs name before x.0 x.1 a.0 t.0) t (ltb-false _ _ many.0)
+    ]
+
+-- ---- a message
+
+opcode_takes : (left : Left) (x : ℕ × Left) → get_or left.octets 0 0 < 256 → opcode_at left ≡ Ok x → Took (length (opcode_spelling x.0)) left x.1
+unfolding opcode_at
+opcode_takes left x byte e =
+    let b = bind_ok (word_at 1 left) (λ first. cond (within 0x80 0xBF first.0) (cond (eqb (length first.1.octets) 0) (refuse left.at Short) (Ok (first.0 * 256 + get_or first.1.octets 0 0, after 1 first.1))) (Ok first)) x e in
+    let t = word_takes 1 left b.0 b.1 in
+    let f = first_word left b.0 b.1 in
+    elim (chosen (within 0x80 0xBF b.0.0) (cond (eqb (length b.0.1.octets) 0) (refuse left.at Short) (Ok (b.0.0 * 256 + get_or b.0.1.octets 0 0, after 1 b.0.1))) (Ok b.0) (Ok x) b.2) [
+      | inl long ↦
+          let g = not_failed (eqb (length b.0.1.octets) 0) (record { at = left.at; why = Short }) (b.0.0 * 256 + get_or b.0.1.octets 0 0, after 1 b.0.1) x long.1 in
+          let some = eqb-false (length b.0.1.octets) 0 g.0 in
+          let w = and_parts (leb 0x80 b.0.0) (leb b.0.0 0xBF) long.0 in
+          let low = leb-true 0x80 b.0.0 w.0 in
+          let wide : ltb (b.0.0 * 256 + get_or b.0.1.octets 0 0) 256 ≡ false = le-ltb _ _ (omega (arith, low)) in
+          subst (λ (y : ℕ × Left). Took (length (opcode_spelling y.0)) left y.1) g.1 (rw wide (omega (arith, t, some, length-drop 1 b.0.1.octets)))
+      | inr one ↦
+          let is : b.0 ≡ x = cc in
+          let narrow : ltb b.0.0 256 ≡ true = lt-ltb _ _ (omega (arith, f, byte)) in
+          subst (λ (y : ℕ × Left). Took (length (opcode_spelling y.0)) left y.1) is (rw narrow (omega (arith, t)))
+    ]
+
+row_takes : (found : Option Fields) (rows : List Row) (opcode : ℕ) (left : Left) (m : Message) → rows_hold rows ≡ true → fields_of rows opcode ≡ found → row_at found opcode left ≡ Ok m
+    → RowFits (fields_of rows m.opcode) m × (length (spelling rows m) ≡ length (opcode_spelling opcode) + length left.octets)
+row_takes None rows opcode left m holds is e = absurd (refused 0 Opcode m e)
+row_takes (Some fs) rows opcode left m holds is e =
+    let b = bind_ok (fields_at fs [] left) (λ shown. Ok (record { opcode = opcode; fields = shown.0; entries = shown.1 })) m e in
+    let h = row_holds rows opcode fs holds is in
+    let t = fields_take fs [] left b.0 h.1 b.1 in
+    let made : Message = record { opcode = opcode; fields = b.0.0; entries = b.0.1 } in
+    let same : made ≡ m = cc in
+    let l = length-append (opcode_spelling opcode) (fields_spelling fs [] b.0.0 b.0.1) in
+    subst (λ (y : Message). RowFits (fields_of rows y.opcode) y × (length (spelling rows y) ≡ length (opcode_spelling opcode) + length left.octets)) same (rw is (t.0, omega (arith, l, t.1)))
+
+-- what is read is in its ranges
+pub message_take : (rows : List Row) (bytes : List ℕ) (m : Message) → ((i : ℕ) → get_or bytes i 0 < 256) → rows_hold rows ≡ true → message_at rows bytes ≡ Ok m → Fits rows m
+message_take rows bytes m octets holds e =
+    elim (chosen (ltb 380 (length bytes)) (refuse 380 Long) (opcode_at (record { at = 0; octets = bytes }) >>= λ opcode. row_at (fields_of rows opcode.0) opcode.0 opcode.1) (Ok m) e) [
+      | inl long ↦ absurd (refused 380 Long m long.1)
+      | inr short ↦
+          let b = bind_ok (opcode_at (record { at = 0; octets = bytes })) (λ opcode. row_at (fields_of rows opcode.0) opcode.0 opcode.1) m short.1 in
+          let o = opcode_takes (record { at = 0; octets = bytes }) b.0 (octets 0) b.1 in
+          let r = row_takes (fields_of rows b.0.0) rows b.0.0 b.0.1 m holds refl b.2 in
+          (r.0, omega (arith, r.1, o, ltb-false 380 (length bytes) short.0))
+    ]

@@ -1,0 +1,7 @@
+pub mod Patterns
+pub mod Fields
+pub mod Reading
+pub mod Spelling
+pub mod Sound
+pub mod Names
+pub mod Table
