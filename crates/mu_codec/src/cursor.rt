@@ -1,6 +1,7 @@
 ghost use Rattle.std.specs.Prelude.{◌≡◌, ◌≤◌, ◌<◌, ◌+◌, OnOk, IfOk, ◌^◌, [], length, slice_index};
 ghost use Rattle.byteorder.specs.Endian.{little_number};
-ghost use Rattle.mu_model_wire.specs.Reading.{Left, Gives, Reads, number_at, pattern_at, opcode_at, pattern_length, pattern_number, follows, Leaves, LeavesBy, ReadsBy, counted_at, word_at, octets_at, rest_at, nothing_left};
+ghost use Rattle.mu_model_wire.specs.Patterns.{pattern_length, pattern_number, follows};
+ghost use Rattle.mu_model_wire.specs.Reading.{Left, Gives, Reads, number_at, pattern_at, opcode_at, Leaves, LeavesBy, ReadsBy, counted_at, word_at, octets_at, rest_at, nothing_left};
 
 use byteorder::{ByteOrder, LittleEndian};
 use mu_model_wire::{Refusal, Why};
