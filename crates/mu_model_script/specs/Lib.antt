@@ -1,0 +1,6 @@
+pub mod Pieces
+pub mod Tokens
+pub mod Event
+pub mod Lines
+pub mod Limits
+pub mod Texts
