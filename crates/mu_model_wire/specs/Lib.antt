@@ -5,3 +5,5 @@ pub mod Spelling
 pub mod Sound
 pub mod Names
 pub mod Table
+pub mod Update
+pub mod Packet

@@ -1,6 +1,7 @@
 -- The rows of the grammar.
 use Rattle.std.specs.Prelude.{ℕ, List, [], ◌∷◌}
 use Rattle.mu_model_wire.specs.Fields.{Part, part, rfu, pattern, Field, split, counted, whole, Fields, end, rest, repeated, ◌▹◌, when, where_left, unless, Row, u8, u16, u32, u64, u8_in, u16_in, u16_from, u32_from, octet}
+use Rattle.mu_model_wire.specs.Update.{information_get, information_status}
 use Rattle.mu_model_wire.specs.Names.{mode, id, size, log, mtu, status, phase, blocks, chunk, octets, missing, address, index, format, block, chunk_size, bits, count, first, uri, update_status, transfer_status, progress, appkey, ttl, base, policy, image, label, group}
 
 abbrev pub transfer_get : Fields
@@ -32,12 +33,6 @@ block_status =
     octet (part status 4 0 10 ∷ rfu 2 ∷ part format 2 0 3 ∷ []) ▹ u16 block ▹ u16 chunk_size
     ▹ when format (2 ∷ []) (rest bits 0 374) (when format (3 ∷ []) (repeated 0 (pattern missing ∷ [])) end)
 
-abbrev pub entry_fields : List Field
-entry_fields = counted id 2 108 ∷ counted uri 0 255 ∷ []
-
-abbrev pub information_status : Fields
-information_status = u8 count ▹ u8 first ▹ repeated 0 entry_fields
-
 abbrev pub row_parts : List Part
 row_parts = part address 15 1 0x7FFF ∷ part phase 4 0 10 ∷ part update_status 3 0 7 ∷ part transfer_status 4 0 10 ∷ part progress 6 0 50 ∷ part index 8 0 255 ∷ []
 
@@ -60,6 +55,7 @@ rows =
     ∷ record { opcode = 0x66; fields = chunk_transfer }
     ∷ record { opcode = 0x67; fields = block_status }
     ∷ record { opcode = 0x68; fields = partial_block_report }
+    ∷ record { opcode = 0x8308; fields = information_get }
     ∷ record { opcode = 0x8309; fields = information_status }
     ∷ record { opcode = 0x8311; fields = receivers_add }
     ∷ record { opcode = 0x8315; fields = receivers_list }
