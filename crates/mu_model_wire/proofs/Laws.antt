@@ -1,16 +1,24 @@
 -- What was spelled is read back.
-use Rattle.std.proofs.Common.{◌≡◌, ℕ, zero, suc, ◌-◌, ◌+◌, ◌*◌, ◌/◌, ◌%◌, ◌^◌, ◌≤◌, ◌<◌, Bool, true, false, ltb, leb, eqb, cond, List, [], ◌∷◌, ◌++◌, length, take, drop, Option, Some, None, Result, Ok, Err, refl, sym, ap, subst, ◌∙◌, append_assoc, arith, inl, inr, length-append, ◌&&◌, ◌||◌}
-use Rattle.std.proofs.lemmas.Bool.{ltb-true, ltb-false, lt-ltb, le-ltb, le-leb, leb-true, and_from, and_parts, and_right, and_left, lt-leb, ne_eqb, eq-eqb, eqb-true, cases_lt, cases_Bool, or_cases}
+use Rattle.std.proofs.Common.{◌≡◌, ℕ, zero, suc, ◌-◌, ◌+◌, ◌*◌, ◌/◌, ◌%◌, ◌^◌, ◌≤◌, ◌<◌, Bool, true, false, ltb, leb, eqb, cond, List, [], ◌∷◌, ◌++◌, length, take, drop, Option, Some, None, Result, Ok, Err, refl, sym, ap, subst, ◌∙◌, append_assoc, arith, inl, inr, length-append, ◌&&◌, ◌||◌, ◌⊎◌}
+use Rattle.std.proofs.lemmas.Bool.{ltb-true, ltb-false, lt-ltb, le-ltb, le-leb, leb-true, and_from, and_parts, and_right, and_left, lt-leb, ne_eqb, eq-eqb, eqb-true, cases_lt, cases_Bool, or_cases, or_right}
 use Rattle.std.proofs.lemmas.List.{take_at, drop_at, take-append-drop, append-nil}
 use Rattle.std.specs.Prelude.{MatchBool}
 use Rattle.byteorder.specs.Endian.{little_bytes}
 use Rattle.byteorder.specs.Numbers.{length-bytes_low_first}
 use Rattle.mu_model_wire.specs.Patterns.{within, pattern_spelling}
-use Rattle.mu_model_wire.specs.Fields.{Part, part, rfu, Field, num, split, counted, whole, pattern, Fields, end, rest, repeated, ◌▹◌, when, where_left, Row, Shown, number, octets as shown_octets, Message}
+use Rattle.mu_model_wire.specs.Fields.{Part, part, rfu, Field, num, zero_or, split, counted, whole, pattern, Fields, end, rest, repeated, ◌▹◌, when, where_left, Row, Shown, number, octets as shown_octets, Message}
 use Rattle.mu_model_wire.specs.Reading.{Left, after, word_at, octets_at, pattern_at, parts_in, parts_of, field_at, entry_at, entries_at, fields_at, opcode_at, fields_of, row_at, message_at, value_of, is_one_of, nothing_left}
 use Rattle.mu_model_wire.specs.Spelling.{joined, begins_with, part_count, shown_count, PartsFit, FieldFits, EntryFits, EntriesFit, RestFits, FieldsFit, RowFits, Fits, field_spelling, entry_spelling, entries_spelling, fields_spelling, opcode_spelling, row_spelling, spelling}
-use Rattle.mu_model_wire.specs.Sound.{bits_of, parts_hold, field_holds, entry_holds, has_field, fields_hold, leads, avoids, opcode_holds, rows_hold}
+use Rattle.mu_model_wire.specs.Sound.{bits_of, parts_hold, field_holds, entry_holds, has_field, fields_hold, leads, avoids, opcode_holds, row_holds, is_new, conditions_hold, rows_hold}
 use Rattle.mu_model_wire.proofs.Words.{left_at, first_is, within-yes, word_again, octets_again, parts_again, pattern_again}
+
+zero_or_below : (v least most bound : ℕ) → most < bound → (v ≡ 0) ⊎ ((least ≤ v) × (v ≤ most)) → v < bound
+zero_or_below v least most bound lt (inl none) = omega arith
+zero_or_below v least most bound lt (inr both) = omega (arith, both.1)
+
+zero_or-yes : (v least most : ℕ) → (v ≡ 0) ⊎ ((least ≤ v) × (v ≤ most)) → ((eqb v 0) || within least most v) ≡ true
+zero_or-yes v least most (inl none) = rw (eq-eqb v 0 none) refl
+zero_or-yes v least most (inr both) = or_right (eqb v 0) (within least most v) (within-yes least most v both.0 both.1)
 
 pub field_again : (f : Field) (shown : List Shown) (at : ℕ) (more : List ℕ) → field_holds f ≡ true → FieldFits f shown
     → field_at f (left_at at (field_spelling f shown ++ more)) ≡ Ok (take (shown_count f) shown, left_at (at + length (field_spelling f shown)) more)
@@ -20,6 +28,12 @@ field_again (num name k least most) (number n v ∷ shown) at more holds fits =
     let h = and_parts (ltb 0 k) (ltb most (256 ^ k)) holds in
     let most_lt : most < 256 ^ k = ltb-true most (256 ^ k) h.1 in
     rw (word_again k v at more (omega (arith, fits.2, most_lt)), within-yes least most v fits.1 fits.2, length-bytes_low_first 0 k v, fits.0) refl
+field_again (zero_or name k least most) [] at more holds fits = absurd fits
+field_again (zero_or name k least most) (shown_octets n os ∷ shown) at more holds fits = absurd fits
+field_again (zero_or name k least most) (number n v ∷ shown) at more holds fits =
+    let h = and_parts (ltb 0 k) (ltb most (256 ^ k)) holds in
+    let most_lt : most < 256 ^ k = ltb-true most (256 ^ k) h.1 in
+    rw (word_again k v at more (zero_or_below v least most (256 ^ k) most_lt fits.1), zero_or-yes v least most fits.1, length-bytes_low_first 0 k v, fits.0) refl
 field_again (split k ps) shown at more holds fits =
     let h = and_parts (ltb 0 k && leb (2 ^ bits_of ps) (256 ^ k)) (parts_hold ps) holds in
     let g = and_parts (ltb 0 k) (leb (2 ^ bits_of ps) (256 ^ k)) h.0 in
@@ -45,6 +59,11 @@ pub field_some : (f : Field) (shown : List Shown) → field_holds f ≡ true →
 field_some (num name k least most) [] holds fits = absurd fits
 field_some (num name k least most) (shown_octets n os ∷ shown) holds fits = absurd fits
 field_some (num name k least most) (number n v ∷ shown) holds fits =
+    let h = and_parts (ltb 0 k) (ltb most (256 ^ k)) holds in
+    omega (arith, ltb-true 0 k h.0, length-bytes_low_first 0 k v)
+field_some (zero_or name k least most) [] holds fits = absurd fits
+field_some (zero_or name k least most) (shown_octets n os ∷ shown) holds fits = absurd fits
+field_some (zero_or name k least most) (number n v ∷ shown) holds fits =
     let h = and_parts (ltb 0 k) (ltb most (256 ^ k)) holds in
     omega (arith, ltb-true 0 k h.0, length-bytes_low_first 0 k v)
 field_some (split k ps) shown holds fits =
@@ -137,7 +156,7 @@ fields_again (rest name least most) before (number n v ∷ shown) entries at hol
 fields_again (rest name least most) before (shown_octets n os ∷ s ∷ shown) entries at holds fits = absurd fits.0
 fields_again (rest name least most) before (shown_octets n os ∷ []) entries at holds fits =
     rw (le-ltb (length os) least fits.0.1, le-ltb most (length os) fits.0.2, fits.1, fits.0.0) refl
-fields_again (repeated least fs) before shown entries at holds fits =
+fields_again (repeated name least fs) before shown entries at holds fits =
     let h = and_parts (has_field fs) (entry_holds fs) holds in
     rw (le-ltb (length (entries_spelling fs entries)) least fits.1, entries_again (length (entries_spelling fs entries)) fs entries at h.0 h.1 fits.2 (omega arith), fits.0) refl
 fields_again (f ▹ fs) before shown entries at holds fits =
@@ -186,18 +205,20 @@ row_cases true row opcode fs others same found o f later =
     (rw n o, rw (← e) f)
 row_cases false row opcode fs others same found o f later = later found
 
-pub row_holds : (rows : List Row) (opcode : ℕ) (fs : Fields) → rows_hold rows ≡ true → fields_of rows opcode ≡ Some fs → (opcode_holds opcode ≡ true) × (fields_hold fs ≡ true)
-row_holds [] opcode fs holds found = absurd cc
-row_holds (row ∷ rows) opcode fs holds found =
-    let h = and_parts (opcode_holds row.opcode && fields_hold row.fields) (rows_hold rows) holds in
-    let g = and_parts (opcode_holds row.opcode) (fields_hold row.fields) h.0 in
-    row_cases (eqb opcode row.opcode) row opcode fs (fields_of rows opcode) refl found g.0 g.1 (λ (e : fields_of rows opcode ≡ Some fs). row_holds rows opcode fs h.1 e)
+pub row_is_held : (rows : List Row) (opcode : ℕ) (fs : Fields) → rows_hold rows ≡ true → fields_of rows opcode ≡ Some fs → (opcode_holds opcode ≡ true) × (fields_hold fs ≡ true)
+row_is_held [] opcode fs holds found = absurd cc
+row_is_held (row ∷ rows) opcode fs holds found =
+    let h = and_parts (row_holds row && is_new row.opcode rows) (rows_hold rows) holds in
+    let i = and_parts (row_holds row) (is_new row.opcode rows) h.0 in
+    let j = and_parts (opcode_holds row.opcode && fields_hold row.fields) (conditions_hold [] row.fields) i.0 in
+    let g = and_parts (opcode_holds row.opcode) (fields_hold row.fields) j.0 in
+    row_cases (eqb opcode row.opcode) row opcode fs (fields_of rows opcode) refl found g.0 g.1 (λ (e : fields_of rows opcode ≡ Some fs). row_is_held rows opcode fs h.1 e)
 
 row_again : (found : Option Fields) (m : Message) (rows : List Row) → rows_hold rows ≡ true → fields_of rows m.opcode ≡ found → RowFits found m → length (row_spelling found m) ≤ 380
     → message_at rows (row_spelling found m) ≡ Ok m
 row_again None m rows holds found fits short = absurd fits
 row_again (Some fs) m rows holds found fits short =
-    let h = row_holds rows m.opcode fs holds found in
+    let h = row_is_held rows m.opcode fs holds found in
     let body = fields_spelling fs [] m.fields m.entries in
     let o = opcode_again m.opcode body h.0 in
     rw (le-ltb 380 (length (opcode_spelling m.opcode ++ body)) short, o.1, found, fields_again fs [] m.fields m.entries o.0 h.1 fits) refl

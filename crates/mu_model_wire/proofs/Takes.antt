@@ -2,8 +2,8 @@
 use Rattle.std.proofs.Common.{◌≡◌, ℕ, zero, suc, ◌-◌, ◌+◌, ◌*◌, ◌/◌, ◌%◌, ◌^◌, ◌≤◌, ◌<◌, Bool, true, false, ltb, leb, eqb, cond, get_or, List, [], ◌∷◌, ◌++◌, length, take, drop, Option, Some, None, Result, Ok, Err, refl, sym, ap, subst, ◌∙◌, append_assoc, arith, inl, inr, length-append, ◌&&◌, ◌||◌, ◌⊎◌, not}
 use Rattle.mu_model_wire.specs.Patterns.{pattern_length, pattern_number, follows, within, pattern_spelling}
 use Rattle.mu_model_wire.specs.Sound.{field_holds, entry_holds, has_field, fields_hold, field_leads, field_avoids, leads, avoids, rows_hold, opcode_holds}
-use Rattle.mu_model_wire.proofs.Laws.{field_some, row_holds}
-use Rattle.std.proofs.lemmas.Bool.{ltb-true, ltb-false, lt-ltb, le-ltb, le-leb, leb-true, leb-false, and_from, and_parts, eqb-true, eqb-false, cases_lt, cases_Bool, not-true}
+use Rattle.mu_model_wire.proofs.Laws.{field_some, row_is_held}
+use Rattle.std.proofs.lemmas.Bool.{ltb-true, ltb-false, lt-ltb, le-ltb, le-leb, leb-true, leb-false, and_from, and_parts, eqb-true, eqb-false, cases_lt, cases_Bool, not-true, or_cases}
 use Rattle.std.proofs.lemmas.List.{take_at, drop_at, take-append-drop, append-nil, nil_from_length, length-take, get_or-take}
 use Rattle.std.proofs.Common.{length-drop}
 use Rattle.std.specs.Prelude.{MatchBool}
@@ -12,8 +12,8 @@ use Rattle.byteorder.specs.Numbers.{length-bytes_low_first}
 use Rattle.mu_model_wire.specs.declared.Refusal.{Refusal}
 use Rattle.mu_model_wire.specs.declared.Why.{Why}
 use Rattle.mu_model_wire.specs.declared.Why.TheVariants.{Opcode, Short, Value, Long}
-use Rattle.mu_model_wire.specs.Fields.{Part, part, rfu, Field, num, split, counted, whole, pattern, Fields, end, rest, repeated, ◌▹◌, when, where_left, Row, Shown, number, octets as shown_octets, Message}
-use Rattle.mu_model_wire.specs.Reading.{◌>>=◌, Left, after, refuse, word_at, octets_at, number_at, counted_at, pattern_at, or_value, parts_in, parts_of, field_at, entry_at, entries_at, rest_at, fields_at, opcode_at, fields_of, row_at, message_at, value_of, is_one_of, nothing_left}
+use Rattle.mu_model_wire.specs.Fields.{Part, part, rfu, Field, num, zero_or, split, counted, whole, pattern, Fields, end, rest, repeated, ◌▹◌, when, where_left, Row, Shown, number, octets as shown_octets, Message}
+use Rattle.mu_model_wire.specs.Reading.{◌>>=◌, Left, after, refuse, word_at, octets_at, number_at, zero_or_number_at, counted_at, pattern_at, or_value, parts_in, parts_of, field_at, entry_at, entries_at, rest_at, fields_at, opcode_at, fields_of, row_at, message_at, value_of, is_one_of, nothing_left}
 use Rattle.mu_model_wire.specs.Spelling.{joined, begins_with, part_count, shown_count, PartsFit, FieldFits, EntryFits, EntriesFit, RestFits, FieldsFit, RowFits, Fits, field_spelling, entry_spelling, entries_spelling, fields_spelling, opcode_spelling, row_spelling, spelling}
 
 -- the value of a step that was not refused
@@ -129,12 +129,32 @@ number_takes k least most left x e =
     let h = and_parts (leb least b.0.0) (leb b.0.0 most) g.0 in
     subst (λ (y : ℕ × Left). (least ≤ y.0) × (y.0 ≤ most) × Took k left y.1) g.1 (leb-true _ _ h.0, leb-true _ _ h.1, word_takes k left b.0 b.1)
 
+allowed : (n least most : ℕ) → (eqb n 0 || within least most n) ≡ true → (n ≡ 0) ⊎ ((least ≤ n) × (n ≤ most))
+allowed n least most e =
+    elim (or_cases (eqb n 0) (within least most n) e) [
+      | inl none ↦ inl (eqb-true n 0 none)
+      | inr both ↦
+          let h = and_parts (leb least n) (leb n most) both in
+          inr (leb-true _ _ h.0, leb-true _ _ h.1)
+    ]
+
+zero_or_takes : (k least most : ℕ) (left : Left) (x : ℕ × Left) → zero_or_number_at k least most left ≡ Ok x → ((x.0 ≡ 0) ⊎ ((least ≤ x.0) × (x.0 ≤ most))) × Took k left x.1
+zero_or_takes k least most left x e =
+    let b = bind_ok (word_at k left) (λ w. cond (eqb w.0 0 || within least most w.0) (Ok w) (refuse left.at Value)) x e in
+    let g = passed (eqb b.0.0 0 || within least most b.0.0) (record { at = left.at; why = Value }) b.0 x b.2 in
+    subst (λ (y : ℕ × Left). ((y.0 ≡ 0) ⊎ ((least ≤ y.0) × (y.0 ≤ most))) × Took k left y.1) g.1 (allowed b.0.0 least most g.0, word_takes k left b.0 b.1)
+
 field_takes : (f : Field) (left : Left) (x : List Shown × Left) (more : List Shown) → field_at f left ≡ Ok x → Taken f left x.1 x.0 more
 field_takes (num name k least most) left x more e =
     let b = bind_ok (number_at k least most left) (λ w. Ok (number name w.0 ∷ [], w.1)) x e in
     let t = number_takes k least most left b.0 b.1 in
     let is : (number name b.0.0 ∷ [], b.0.1) ≡ x = cc in
     subst (λ (y : List Shown × Left). Taken (num name k least most) left y.1 y.0 more) is (record { fits = (refl, t.0, t.1); count = refl; took = omega (arith, t.2, length-bytes_low_first 0 k b.0.0) })
+field_takes (zero_or name k least most) left x more e =
+    let b = bind_ok (zero_or_number_at k least most left) (λ w. Ok (number name w.0 ∷ [], w.1)) x e in
+    let t = zero_or_takes k least most left b.0 b.1 in
+    let is : (number name b.0.0 ∷ [], b.0.1) ≡ x = cc in
+    subst (λ (y : List Shown × Left). Taken (zero_or name k least most) left y.1 y.0 more) is (record { fits = (refl, t.0); count = refl; took = omega (arith, t.1, length-bytes_low_first 0 k b.0.0) })
 field_takes (split k ps) left x more e =
     let b = bind_ok (word_at k left) (λ w. cond (parts_in ps w.0) (Ok (parts_of ps w.0, w.1)) (refuse left.at Value)) x e in
     let g = passed (parts_in ps b.0.0) (record { at = left.at; why = Value }) (parts_of ps b.0.0, b.0.1) x b.2 in
@@ -214,6 +234,9 @@ field_begins : (f : Field) (name : ℕ) (shown : List Shown) → field_leads nam
 field_begins (num n k least most) name [] leads fits = absurd fits
 field_begins (num n k least most) name (shown_octets m os ∷ shown) leads fits = absurd fits
 field_begins (num n k least most) name (number m v ∷ shown) leads fits = rw fits.0 leads
+field_begins (zero_or n k least most) name [] leads fits = absurd fits
+field_begins (zero_or n k least most) name (shown_octets m os ∷ shown) leads fits = absurd fits
+field_begins (zero_or n k least most) name (number m v ∷ shown) leads fits = rw fits.0 leads
 field_begins (split k ps) name shown leads fits = absurd cc
 field_begins (counted n least most) name [] leads fits = absurd fits
 field_begins (counted n least most) name (number m v ∷ shown) leads fits = absurd fits
@@ -229,6 +252,9 @@ field_begins_not : (f : Field) (name : ℕ) (shown : List Shown) → field_avoid
 field_begins_not (num n k least most) name [] avoids fits = absurd fits
 field_begins_not (num n k least most) name (shown_octets m os ∷ shown) avoids fits = absurd fits
 field_begins_not (num n k least most) name (number m v ∷ shown) avoids fits = rw fits.0 (not-true (eqb n name) avoids)
+field_begins_not (zero_or n k least most) name [] avoids fits = absurd fits
+field_begins_not (zero_or n k least most) name (shown_octets m os ∷ shown) avoids fits = absurd fits
+field_begins_not (zero_or n k least most) name (number m v ∷ shown) avoids fits = rw fits.0 (not-true (eqb n name) avoids)
 field_begins_not (split k ps) name shown avoids fits = absurd cc
 field_begins_not (counted n least most) name [] avoids fits = absurd fits
 field_begins_not (counted n least most) name (number m v ∷ shown) avoids fits = absurd fits
@@ -246,7 +272,7 @@ begins (rest n least most) name before [] entries leads fits = absurd fits.0
 begins (rest n least most) name before (number m v ∷ shown) entries leads fits = absurd fits.0
 begins (rest n least most) name before (shown_octets m os ∷ s ∷ shown) entries leads fits = absurd fits.0
 begins (rest n least most) name before (shown_octets m os ∷ []) entries leads fits = rw fits.0.0 leads
-begins (repeated least fs) name before shown entries leads fits = absurd cc
+begins (repeated n least fs) name before shown entries leads fits = absurd cc
 begins (f ▹ fs) name before shown entries leads fits = field_begins f name shown leads fits.0
 begins (when n values fs gs) name before shown entries leads fits = absurd cc
 begins (where_left k n fs gs) name before shown entries leads fits = absurd cc
@@ -257,7 +283,7 @@ begins_not (rest n least most) name before [] entries avoids fits = absurd fits.
 begins_not (rest n least most) name before (number m v ∷ shown) entries avoids fits = absurd fits.0
 begins_not (rest n least most) name before (shown_octets m os ∷ s ∷ shown) entries avoids fits = absurd fits.0
 begins_not (rest n least most) name before (shown_octets m os ∷ []) entries avoids fits = rw fits.0.0 (not-true (eqb n name) avoids)
-begins_not (repeated least fs) name before shown entries avoids fits = rw fits.0 refl
+begins_not (repeated n least fs) name before shown entries avoids fits = rw fits.0 refl
 begins_not (f ▹ fs) name before shown entries avoids fits = field_begins_not f name shown avoids fits.0
 begins_not (when n values fs gs) name before shown entries avoids fits = absurd cc
 begins_not (where_left k n fs gs) name before shown entries avoids fits = absurd cc
@@ -299,7 +325,7 @@ fields_take (rest name least most) before left x holds e =
     let t = rest_takes least most left b.0 b.1 in
     let is : (shown_octets name b.0 ∷ [], []) ≡ x = cc in
     subst (λ (y : List Shown × List (List Shown)). FieldsTaken (rest name least most) before left y) is (((refl, t.0, t.1), refl), t.2)
-fields_take (repeated least fs) before left x holds e =
+fields_take (repeated name least fs) before left x holds e =
     let h = and_parts (has_field fs) (entry_holds fs) holds in
     elim (chosen (ltb (length left.octets) least) (refuse left.at Short) (entries_at (length left.octets) fs left >>= λ es. Ok ([], es)) (Ok x) e) [
       | inl lacks ↦ absurd (refused left.at Short x lacks.1)
@@ -307,7 +333,7 @@ fields_take (repeated least fs) before left x holds e =
           let b = bind_ok (entries_at (length left.octets) fs left) (λ es. Ok ([], es)) x some.1 in
           let t = entries_take (length left.octets) fs left b.0 h.0 h.1 (omega arith) b.1 in
           let is : ([], b.0) ≡ x = cc in
-          subst (λ (y : List Shown × List (List Shown)). FieldsTaken (repeated least fs) before left y) is ((refl, omega (arith, t.1, ltb-false _ _ some.0), t.0), t.1)
+          subst (λ (y : List Shown × List (List Shown)). FieldsTaken (repeated name least fs) before left y) is ((refl, omega (arith, t.1, ltb-false _ _ some.0), t.0), t.1)
     ]
 fields_take (f ▹ fs) before left x holds e =
     let h = and_parts (field_holds f) (fields_hold fs) holds in
@@ -363,7 +389,7 @@ row_takes : (found : Option Fields) (rows : List Row) (opcode : ℕ) (left : Lef
 row_takes None rows opcode left m holds is e = absurd (refused 0 Opcode m e)
 row_takes (Some fs) rows opcode left m holds is e =
     let b = bind_ok (fields_at fs [] left) (λ shown. Ok (record { opcode = opcode; fields = shown.0; entries = shown.1 })) m e in
-    let h = row_holds rows opcode fs holds is in
+    let h = row_is_held rows opcode fs holds is in
     let t = fields_take fs [] left b.0 h.1 b.1 in
     let made : Message = record { opcode = opcode; fields = b.0.0; entries = b.0.1 } in
     let same : made ≡ m = cc in
