@@ -33,10 +33,18 @@ octets_again at os rest =
 
 -- ---- parts
 
+abbrev first_value : List Shown → ℕ
+first_value [] = 0
+first_value (number n v ∷ shown) = v
+first_value (shown_octets n os ∷ shown) = 0
+
 pub record PartsAgain (ps : List Part) (shown : List Shown) : Type 0 where
   pub below : joined ps shown < 2 ^ bits_of ps
   pub fits : parts_in ps (joined ps shown) ≡ true
   pub again : parts_of ps (joined ps shown) ≡ take (part_count ps) shown
+
+pub first_number : (m n u v : ℕ) (xs ys : List Shown) → number m u ∷ xs ≡ number n v ∷ ys → u ≡ v
+first_number m n u v xs ys same = ap first_value same
 
 -- so many low bits under what is above them
 above : (w b low high : ℕ) → low < 2 ^ w → high < 2 ^ b → low + 2 ^ w * high < 2 ^ (w + b)
