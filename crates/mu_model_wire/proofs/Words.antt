@@ -1,14 +1,14 @@
 -- A word, its parts and a number pattern are read back as they were spelled.
-use Rattle.std.proofs.Common.{◌≡◌, ℕ, zero, suc, ◌-◌, ◌+◌, ◌*◌, ◌/◌, ◌%◌, ◌^◌, ◌≤◌, ◌<◌, Bool, true, false, ltb, leb, eqb, List, [], ◌∷◌, ◌++◌, length, take, drop, Result, Ok, Err, refl, sym, ap, ◌∙◌, append_assoc, arith, inl, inr, length-append, ◌&&◌}
-use Rattle.std.proofs.lemmas.Bool.{ltb-true, ltb-false, lt-ltb, le-ltb, le-leb, leb-true, and_from, and_parts, and_right, lt-leb, cases_lt}
+use Rattle.std.proofs.Common.{◌≡◌, ℕ, ◌-◌, ◌+◌, ◌*◌, ◌/◌, ◌%◌, ◌^◌, ◌≤◌, ◌<◌, true, false, ltb, leb, List, [], ◌∷◌, ◌++◌, length, take, Ok, refl, sym, ap, ◌∙◌, arith, inl, inr, length-append}
+use Rattle.std.proofs.lemmas.Bool.{ltb-true, lt-ltb, le-ltb, le-leb, and_from, and_parts, and_right, lt-leb, cases_lt}
 use Rattle.std.proofs.lemmas.List.{take_at, drop_at}
 use Rattle.std.proofs.Math.Nat.{add-mul-div_left, add-mul-mod_self_left, mod-eq_of_lt, div-eq_of_lt, mul-le-mul_left, mul-div_right}
 use lib.Pow.{pow-add, pow_pos}
-use Rattle.byteorder.specs.Endian.{little_bytes, little_number}
+use Rattle.byteorder.specs.Endian.{little_bytes}
 use Rattle.byteorder.specs.Numbers.{little_number-reads_back, length-bytes_low_first}
 use Rattle.mu_model_wire.specs.Patterns.{within, pattern_spelling}
 use Rattle.mu_model_wire.specs.Fields.{Part, part, rfu, Shown, number, octets as shown_octets}
-use Rattle.mu_model_wire.specs.Reading.{Left, after, word_at, octets_at, pattern_at, parts_in, parts_of}
+use Rattle.mu_model_wire.specs.Reading.{Left, word_at, octets_at, pattern_at, parts_in, parts_of}
 use Rattle.mu_model_wire.specs.Spelling.{joined, part_count, PartsFit}
 use Rattle.mu_model_wire.specs.Sound.{bits_of, parts_hold}
 

@@ -1,6 +1,6 @@
 -- The rows of the BLOB Transfer model's messages (MshMBT, BLOB Transfer messages; ranges are this profile's).
-use Rattle.std.specs.Prelude.{ℕ, List, [], ◌∷◌}
-use Rattle.mu_model_wire.specs.Fields.{Part, part, rfu, any, Fields, end, rest, ◌▹◌, when, unless, Row, u8, u16, u32, u64, u8_in, u16_from, u32_from, octet, list}
+use Rattle.std.specs.Prelude.{List, [], ◌∷◌}
+use Rattle.mu_model_wire.specs.Fields.{part, rfu, any, Fields, end, rest, ◌▹◌, when, unless, Row, u16, u32, u64, u8_in, u16_from, u32_from, octet, list}
 use Rattle.mu_model_wire.specs.Names.{mode, id, size, log, mtu, status, phase, blocks, chunk, octets, missing, format, block, chunk_size, bits, min_log, max_log, max_chunks, max_chunk_size, max_size, push, pull}
 
 abbrev pub transfer_get : Fields

@@ -1,5 +1,5 @@
 -- The rows of the Firmware Distribution model's messages (MshDFU, Firmware Distribution messages; ranges are this profile's).
-use Rattle.std.specs.Prelude.{ℕ, List, [], ◌∷◌}
+use Rattle.std.specs.Prelude.{List, [], ◌∷◌}
 use Rattle.mu_model_wire.specs.Fields.{Part, part, rfu, any, Field, split, counted, whole, Fields, end, rest, repeated, ◌▹◌, where_left, unless, Row, u8, u16, u32, u64, u8_in, u16_in, u16_zero_or, u32_from, octet}
 use Rattle.mu_model_wire.specs.Names.{address, index, entries, status, count, first, limit, phase, update_status, transfer_status, progress, receivers, images, max_size, space, remaining, oob, schemes, appkey, ttl, base, mode, policy, image, label, group, id, size, metadata, fwid, uri, kind}
 

@@ -1,5 +1,5 @@
 -- What holds of every table of rows that passes the test `rows_hold`, and that the grammar passes it.
-use Rattle.std.specs.Prelude.{◌≡◌, ℕ, ◌<◌, ◌↔◌, List, slice_index, Result, Ok, Err, IsTrue, ◌⊎◌}
+use Rattle.std.specs.Prelude.{◌≡◌, ℕ, ◌<◌, ◌↔◌, List, slice_index, Ok, Err, IsTrue, ◌⊎◌}
 use Rattle.mu_model_wire.specs.declared.Refusal.{Refusal}
 use Rattle.mu_model_wire.specs.Fields.{Row, Message}
 use Rattle.mu_model_wire.specs.Reading.{message_at}

@@ -1,5 +1,5 @@
 -- Which rows can be read back: a test of the table alone.
-use Rattle.std.specs.Prelude.{ℕ, ◌+◌, ◌*◌, ◌/◌, ◌^◌, Bool, true, false, List, [], ◌∷◌, ◌++◌, nat_lt, nat_le, ◌&&◌, ◌==◌, not, ◌||◌}
+use Rattle.std.specs.Prelude.{ℕ, ◌+◌, ◌^◌, Bool, true, false, List, [], ◌∷◌, ◌++◌, nat_lt, nat_le, ◌&&◌, ◌==◌, not, ◌||◌}
 use Rattle.mu_model_wire.specs.Fields.{Part, part, rfu, Field, num, zero_or, split, counted, whole, pattern, Fields, end, rest, repeated, ◌▹◌, when, where_left, Row}
 use Rattle.mu_model_wire.specs.Patterns.{within}
 use Rattle.mu_model_wire.specs.Reading.{is_one_of}

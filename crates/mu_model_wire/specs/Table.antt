@@ -1,5 +1,5 @@
 -- The grammar: all rows, and the names of their messages.
-use Rattle.std.specs.Prelude.{ℕ, List, [], ◌∷◌, ◌++◌, codes}
+use Rattle.std.specs.Prelude.{List, ◌++◌}
 use Rattle.mu_model_wire.specs.Fields.{Row}
 use Rattle.mu_model_wire.specs.Blob.{blob_rows}
 use Rattle.mu_model_wire.specs.Update.{update_rows}

@@ -1,6 +1,6 @@
 -- The rows of the Firmware Update model's messages (MshDFU, Firmware Update messages; ranges are this profile's).
-use Rattle.std.specs.Prelude.{ℕ, List, [], ◌∷◌}
-use Rattle.mu_model_wire.specs.Fields.{Part, part, rfu, any, Field, counted, Fields, end, rest, repeated, ◌▹◌, unless, Row, u8, u16, u64, octet}
+use Rattle.std.specs.Prelude.{List, [], ◌∷◌}
+use Rattle.mu_model_wire.specs.Fields.{part, rfu, any, Field, counted, Fields, end, rest, repeated, ◌▹◌, unless, Row, u8, u16, u64, octet}
 use Rattle.mu_model_wire.specs.Names.{first, limit, count, id, uri, entries, index, metadata, status, additional, phase, ttl, base}
 
 abbrev pub information_get : Fields

@@ -1,14 +1,13 @@
 -- Octets that spell a message are read as it.
-use Rattle.std.proofs.Common.{◌≡◌, ℕ, zero, suc, ◌-◌, ◌+◌, ◌*◌, ◌/◌, ◌%◌, ◌^◌, ◌≤◌, ◌<◌, Bool, true, false, ltb, leb, eqb, cond, List, [], ◌∷◌, ◌++◌, length, take, drop, Option, Some, None, Result, Ok, Err, refl, sym, ap, subst, ◌∙◌, append_assoc, arith, inl, inr, length-append, ◌&&◌, ◌||◌, ◌⊎◌}
-use Rattle.std.proofs.lemmas.Bool.{ltb-true, ltb-false, lt-ltb, le-ltb, le-leb, leb-true, and_from, and_parts, and_right, and_left, lt-leb, ne_eqb, eq-eqb, eqb-true, cases_lt, cases_Bool, or_cases, or_right}
-use Rattle.std.proofs.lemmas.List.{take_at, drop_at, take-append-drop, append-nil}
+use Rattle.std.proofs.Common.{◌≡◌, ℕ, zero, suc, ◌+◌, ◌*◌, ◌/◌, ◌%◌, ◌^◌, ◌≤◌, ◌<◌, Bool, true, false, ltb, leb, eqb, cond, List, [], ◌∷◌, ◌++◌, length, take, drop, Option, Some, None, Ok, refl, ap, ◌∙◌, append_assoc, arith, inl, inr, length-append, ◌&&◌, ◌||◌, ◌⊎◌}
+use Rattle.std.proofs.lemmas.Bool.{ltb-true, lt-ltb, le-ltb, leb-true, and_from, and_parts, and_left, lt-leb, ne_eqb, eq-eqb, eqb-true, cases_lt, or_cases, or_right}
+use Rattle.std.proofs.lemmas.List.{take-append-drop}
 use Rattle.std.specs.Prelude.{MatchBool}
-use Rattle.byteorder.specs.Endian.{little_bytes}
 use Rattle.byteorder.specs.Numbers.{length-bytes_low_first}
-use Rattle.mu_model_wire.specs.Patterns.{within, pattern_spelling}
+use Rattle.mu_model_wire.specs.Patterns.{within}
 use Rattle.mu_model_wire.specs.Fields.{Part, part, rfu, Field, num, zero_or, split, counted, whole, pattern, Fields, end, rest, repeated, ◌▹◌, when, where_left, Row, Shown, number, octets as shown_octets, Message}
-use Rattle.mu_model_wire.specs.Reading.{Left, after, word_at, octets_at, pattern_at, parts_in, parts_of, field_at, entry_at, entries_at, fields_at, opcode_at, fields_of, row_at, message_at, value_of, is_one_of, nothing_left}
-use Rattle.mu_model_wire.specs.Spelling.{joined, begins_with, part_count, shown_count, PartsFit, FieldFits, EntryFits, EntriesFit, RestFits, FieldsFit, RowFits, Fits, field_spelling, entry_spelling, entries_spelling, fields_spelling, opcode_spelling, row_spelling, spelling}
+use Rattle.mu_model_wire.specs.Reading.{Left, after, parts_in, parts_of, field_at, entry_at, entries_at, fields_at, opcode_at, fields_of, message_at, value_of, is_one_of}
+use Rattle.mu_model_wire.specs.Spelling.{joined, begins_with, part_count, shown_count, PartsFit, FieldFits, EntryFits, EntriesFit, FieldsFit, RowFits, Fits, field_spelling, entry_spelling, entries_spelling, fields_spelling, opcode_spelling, row_spelling, spelling}
 use Rattle.mu_model_wire.specs.Spells.{FieldSpells, EntrySpells, EntriesSpell, FieldsSpell, RowSpells, Spells}
 use Rattle.mu_model_wire.specs.Sound.{bits_of, parts_hold, field_holds, entry_holds, has_field, fields_hold, leads, avoids, opcode_holds, row_holds, is_new, conditions_hold, rows_hold}
 use Rattle.mu_model_wire.proofs.Words.{left_at, first_is, within-yes, word_again, octets_again, parts_again, pattern_again, first_number}

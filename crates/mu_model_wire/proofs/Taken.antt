@@ -1,23 +1,22 @@
 -- What is read has its fields in their ranges, and the octets spell it.
-use Rattle.std.proofs.Common.{◌≡◌, ℕ, zero, suc, ◌-◌, ◌+◌, ◌*◌, ◌/◌, ◌%◌, ◌^◌, ◌≤◌, ◌<◌, Bool, true, false, ltb, leb, eqb, cond, get_or, List, [], ◌∷◌, ◌++◌, length, take, drop, Option, Some, None, Result, Ok, Err, refl, sym, ap, subst, ◌∙◌, append_assoc, arith, inl, inr, length-append, ◌&&◌, ◌||◌, ◌⊎◌, not}
-use Rattle.mu_model_wire.specs.Patterns.{pattern_length, pattern_number, follows, within, pattern_spelling}
-use Rattle.mu_model_wire.specs.Sound.{field_holds, entry_holds, has_field, fields_hold, field_leads, field_avoids, leads, avoids, rows_hold, opcode_holds}
+use Rattle.std.proofs.Common.{◌≡◌, ℕ, zero, suc, ◌+◌, ◌*◌, ◌/◌, ◌%◌, ◌^◌, ◌≤◌, ◌<◌, Bool, true, false, ltb, leb, eqb, cond, get_or, List, [], ◌∷◌, ◌++◌, length, take, drop, Option, Some, None, Result, Ok, Err, refl, sym, ap, subst, ◌∙◌, append_assoc, arith, inl, inr, length-append, ◌&&◌, ◌||◌, ◌⊎◌}
+use Rattle.mu_model_wire.specs.Patterns.{pattern_length, pattern_number, within, pattern_spelling}
+use Rattle.mu_model_wire.specs.Sound.{field_holds, entry_holds, has_field, fields_hold, field_leads, field_avoids, leads, avoids, rows_hold}
 use Rattle.mu_model_wire.specs.Spells.{FieldSpells, EntrySpells, EntriesSpell, FieldsSpell, RowSpells, Spells}
 use Rattle.mu_model_wire.specs.Laws.{AreOctets}
 use Rattle.mu_model_wire.proofs.Octets.{bytes_back, octets_after}
-use Rattle.mu_model_wire.proofs.Laws.{field_some, row_is_held, entry_some, entry_length, entries_length, fields_length}
-use Rattle.std.proofs.lemmas.Bool.{ltb-true, ltb-false, lt-ltb, le-ltb, le-leb, leb-true, leb-false, and_from, and_parts, eqb-true, eqb-false, cases_lt, cases_Bool, not-true, or_cases}
-use Rattle.std.proofs.lemmas.List.{take_at, drop_at, take-append-drop, append-nil, nil_from_length, length-take, get_or-take}
-use Rattle.std.proofs.Common.{length-drop}
+use Rattle.mu_model_wire.proofs.Spelled.{row_is_held, entry_some, entry_length, entries_length, fields_length}
+use Rattle.std.proofs.lemmas.Bool.{ltb-true, ltb-false, lt-ltb, le-ltb, leb-true, and_parts, eqb-true, eqb-false, not-true, or_cases}
+use Rattle.std.proofs.lemmas.List.{take_at, drop_at, take-append-drop, nil_from_length, length-take, get_or-take}
 use Rattle.std.specs.Prelude.{MatchBool}
 use Rattle.byteorder.specs.Endian.{little_bytes, little_number}
-use Rattle.byteorder.specs.Numbers.{length-bytes_low_first, little_from-lt}
+use Rattle.byteorder.specs.Numbers.{little_from-lt}
 use Rattle.mu_model_wire.specs.declared.Refusal.{Refusal}
 use Rattle.mu_model_wire.specs.declared.Why.{Why}
 use Rattle.mu_model_wire.specs.declared.Why.TheVariants.{Opcode, Short, Value, Long}
 use Rattle.mu_model_wire.specs.Fields.{Part, part, rfu, Field, num, zero_or, split, counted, whole, pattern, Fields, end, rest, repeated, ◌▹◌, when, where_left, Row, Shown, number, octets as shown_octets, Message}
-use Rattle.mu_model_wire.specs.Reading.{◌>>=◌, Left, after, refuse, word_at, octets_at, number_at, zero_or_number_at, counted_at, pattern_at, or_value, parts_in, parts_of, field_at, entry_at, entries_at, rest_at, fields_at, opcode_at, fields_of, row_at, message_at, value_of, is_one_of, nothing_left}
-use Rattle.mu_model_wire.specs.Spelling.{joined, begins_with, part_count, shown_count, PartsFit, FieldFits, EntryFits, EntriesFit, RestFits, FieldsFit, RowFits, Fits, field_spelling, entry_spelling, entries_spelling, fields_spelling, opcode_spelling, row_spelling, spelling}
+use Rattle.mu_model_wire.specs.Reading.{◌>>=◌, Left, after, refuse, word_at, octets_at, number_at, zero_or_number_at, counted_at, pattern_at, or_value, parts_in, parts_of, field_at, entry_at, entries_at, rest_at, fields_at, opcode_at, fields_of, row_at, message_at, value_of, is_one_of}
+use Rattle.mu_model_wire.specs.Spelling.{begins_with, part_count, shown_count, PartsFit, FieldFits, EntryFits, EntriesFit, FieldsFit, RowFits, Fits, fields_spelling, opcode_spelling, row_spelling}
 
 -- the value of a step that was not refused
 bind_ok : {A B : Type 0} (r : Result A Refusal) (f : A → Result B Refusal) (y : B) → (r >>= f) ≡ Ok y → (x : A) × (r ≡ Ok x) × (f x ≡ Ok y)
