@@ -1,5 +1,5 @@
 -- The pieces of a list are the list.
-use Rattle.std.proofs.Common.{ℕ, zero, suc, ◌+◌, ◌-◌, ◌*◌, ◌/◌, ◌%◌, ◌<◌, ◌≤◌, ◌≡◌, List, [], ◌∷◌, ◌++◌, length, take, drop, map, min, sum, refl, sym, ap, ◌∙◌, arith, add-one, length-drop, length-append}
+use Rattle.std.proofs.Common.{ℕ, zero, suc, ◌+◌, ◌-◌, ◌*◌, ◌<◌, ◌≤◌, ◌≡◌, List, [], ◌∷◌, ◌++◌, length, take, drop, map, min, sum, refl, sym, ap, ◌∙◌, arith, add-one, length-drop, length-append}
 use Rattle.std.specs.List.{range_with_len, concat}
 use Rattle.std.proofs.Math.Nat.{div-add-mod', add-mul, one-mul, zero-mul}
 use Rattle.std.proofs.Math.Seq.{take-add}

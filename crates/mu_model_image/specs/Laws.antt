@@ -1,5 +1,5 @@
 -- What holds of metadata, Firmware IDs, images, blocks and chunks.
-use Rattle.std.specs.Prelude.{ℕ, ◌≡◌, ◌<◌, ◌≤◌, ◌*◌, ◌^◌, ◌↔◌, List, Some, length, map, sum, slice_index}
+use Rattle.std.specs.Prelude.{ℕ, ◌≡◌, ◌<◌, ◌*◌, ◌^◌, ◌↔◌, List, Some, length, map, sum, slice_index}
 use Rattle.std.specs.List.{All, concat}
 use Rattle.mu_model_image.specs.declared.Meta.{Meta}
 use Rattle.mu_model_image.specs.Meta.{meta_octets, meta_from, firmware_id, IsMeta, IsFit, image_of}

@@ -7,20 +7,17 @@ pub fn metadata()
     ensures read_back { MetaIsReadBack }
     ensures one_spelling { MetaHasOneSpelling }
     ensures in_range { MetaThatIsReadIsInRange }
-{
-}
+{}
 
 /// A Firmware ID names one company, version and digest.
 pub fn firmware_ids()
     ensures { FirmwareIdsDiffer }
-{
-}
+{}
 
 /// An image fits its own metadata.
 pub fn images()
     ensures { ImagesFit }
-{
-}
+{}
 
 /// Blocks tile the image.
 pub fn blocks()
@@ -28,8 +25,7 @@ pub fn blocks()
     ensures within { BlocksAreThoseWithin }
     ensures length { BlockHasItsLength }
     ensures sum { BlockLengthsSumToTheSize }
-{
-}
+{}
 
 /// Chunks tile the block.
 pub fn chunks()
@@ -37,12 +33,10 @@ pub fn chunks()
     ensures within { ChunksAreThoseWithin }
     ensures length { ChunkHasItsLength }
     ensures sum { ChunkLengthsSumToTheLength }
-{
-}
+{}
 
 /// A made image has its size and its octets.
 pub fn made()
     ensures size { MadeImageHasItsSize }
     ensures octets { MadeImageHasItsOctets }
-{
-}
+{}
