@@ -1,0 +1,4 @@
+//! The commands of the program, over the outside that is handed in.
+#![tactic(auto)]
+
+mod reader;
