@@ -2,11 +2,7 @@
 use Rattle.std.specs.Prelude.{ℕ, ◌*◌, ◌==◌, ◌&&◌, ◌||◌, not, Bool, List, [], ◌∷◌}
 use Rattle.mu_model_wire.specs.Packet.{Packet}
 use Rattle.mu_model_image.specs.Meta.{Image}
-
--- its unicast address, and its group, 0 for none
-pub record NodeConfig : Type 0 where
-  pub address : ℕ
-  pub group : ℕ
+use Rattle.mu_model_node.specs.declared.NodeConfig.{NodeConfig}
 
 pub record NodeDurable : Type 0 where
   -- how many records were written

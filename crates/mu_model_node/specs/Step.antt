@@ -2,7 +2,8 @@
 use Rattle.std.specs.Prelude.{ℕ, max, Bool, true, false, List, [], map, Option, Some, None, if◌then◌else◌}
 use Rattle.mu_model_wire.specs.Packet.{Packet}
 use Rattle.mu_model_node.specs.Message.{Request, request_at, Reply, reply_octets}
-use Rattle.mu_model_node.specs.Node.{NodeConfig, NodeState, is_addressee}
+use Rattle.mu_model_node.specs.Node.{NodeState, is_addressee}
+use Rattle.mu_model_node.specs.declared.NodeConfig.{NodeConfig}
 use Rattle.mu_model_node.specs.Table.{Outcome, on_request}
 
 pub data NodeEvent : Type 0 where

@@ -1,8 +1,9 @@
 -- The world of a script: its members and all that was sent.
-use Rattle.std.specs.Prelude.{ℕ, nat_eq, ◌∷◌, Bool, false, List, [], ◌++◌, Option}
-use Rattle.std.specs.Map.{lookup, set_value}
+use Rattle.std.specs.Prelude.{ℕ, nat_eq, Bool, false, List, [], Option}
+use Rattle.std.specs.Map.{lookup}
 use Rattle.mu_model_wire.specs.Packet.{Packet}
-use Rattle.mu_model_node.specs.Node.{NodeConfig, NodeState}
+use Rattle.mu_model_node.specs.Node.{NodeState}
+use Rattle.mu_model_node.specs.declared.NodeConfig.{NodeConfig}
 
 -- a node of the script
 pub record Member : Type 0 where

@@ -1,4 +1,5 @@
 //! The commands of the program, over the outside that is handed in.
 #![tactic(auto)]
 
+mod grammar;
 mod reader;
