@@ -5,7 +5,7 @@ use Rattle.std.proofs.lemmas.List.{take-append-drop}
 use Rattle.std.specs.Prelude.{MatchBool}
 use Rattle.byteorder.specs.Numbers.{length-bytes_low_first}
 use Rattle.mu_model_wire.specs.Patterns.{within}
-use Rattle.mu_model_wire.specs.Fields.{Part, part, rfu, Field, num, zero_or, split, counted, whole, pattern, Fields, end, rest, repeated, ◌▹◌, when, where_left, Row, Shown, number, octets as shown_octets, Message}
+use Rattle.mu_model_wire.specs.Fields.{Part, part, rfu, Field, word, num, zero_or, split, counted, whole, pattern, Fields, end, rest, repeated, ◌▹◌, when, where_left, Row, Shown, number, octets as shown_octets, Message}
 use Rattle.mu_model_wire.specs.Reading.{Left, after, parts_in, parts_of, field_at, entry_at, entries_at, fields_at, opcode_at, fields_of, message_at, value_of, is_one_of}
 use Rattle.mu_model_wire.specs.Spelling.{joined, begins_with, part_count, shown_count, PartsFit, FieldFits, EntryFits, EntriesFit, FieldsFit, RowFits, Fits, field_spelling, entry_spelling, entries_spelling, fields_spelling, opcode_spelling, row_spelling, spelling}
 use Rattle.mu_model_wire.specs.Spells.{FieldSpells, EntrySpells, EntriesSpell, FieldsSpell, RowSpells, Spells}
@@ -22,6 +22,10 @@ zero_or-yes v least most (inr both) = or_right (eqb v 0) (within least most v) (
 
 pub field_again : (f : Field) (shown : List Shown) (at : ℕ) (more : List ℕ) → field_holds f ≡ true → FieldFits f shown
     → field_at f (left_at at (field_spelling f shown ++ more)) ≡ Ok (take (shown_count f) shown, left_at (at + length (field_spelling f shown)) more)
+field_again (word name k) [] at more holds fits = absurd fits
+field_again (word name k) (shown_octets n os ∷ shown) at more holds fits = absurd fits
+field_again (word name k) (number n v ∷ shown) at more holds fits =
+    rw (word_again k v at more fits.1, length-bytes_low_first 0 k v, fits.0) refl
 field_again (num name k least most) [] at more holds fits = absurd fits
 field_again (num name k least most) (shown_octets n os ∷ shown) at more holds fits = absurd fits
 field_again (num name k least most) (number n v ∷ shown) at more holds fits =
@@ -56,6 +60,9 @@ field_again (pattern name) (number n v ∷ shown) at more holds fits =
 
 -- a field has an octet
 pub field_some : (f : Field) (shown : List Shown) → field_holds f ≡ true → FieldFits f shown → 0 < length (field_spelling f shown)
+field_some (word name k) [] holds fits = absurd fits
+field_some (word name k) (shown_octets n os ∷ shown) holds fits = absurd fits
+field_some (word name k) (number n v ∷ shown) holds fits = omega (arith, ltb-true 0 k holds, length-bytes_low_first 0 k v)
 field_some (num name k least most) [] holds fits = absurd fits
 field_some (num name k least most) (shown_octets n os ∷ shown) holds fits = absurd fits
 field_some (num name k least most) (number n v ∷ shown) holds fits =
@@ -105,6 +112,7 @@ pub field_read : (f : Field) (shown : List Shown) (own : List ℕ) (at : ℕ) (m
 field_read (split k ps) shown own at more holds fits spells =
     let ok = parts_in-of ps spells.0 shown fits spells.3 in
     rw (spells.2, word_again k spells.0 at more spells.1, ok, spells.3, length-bytes_low_first 0 k spells.0) refl
+field_read (word name k) shown own at more holds fits spells = rw spells (field_again (word name k) shown at more holds fits)
 field_read (num name k least most) shown own at more holds fits spells = rw spells (field_again (num name k least most) shown at more holds fits)
 field_read (zero_or name k least most) shown own at more holds fits spells = rw spells (field_again (zero_or name k least most) shown at more holds fits)
 field_read (counted name least most) shown own at more holds fits spells = rw spells (field_again (counted name least most) shown at more holds fits)
@@ -114,6 +122,7 @@ field_read (pattern name) shown own at more holds fits spells = rw spells (field
 -- all spellings of a field have one length
 pub field_length : (f : Field) (shown : List Shown) (own : List ℕ) → FieldSpells f shown own → length own ≡ length (field_spelling f shown)
 field_length (split k ps) shown own spells = rw (spells.2, length-bytes_low_first 0 k spells.0, length-bytes_low_first 0 k (joined ps shown)) refl
+field_length (word name k) shown own spells = ap length spells
 field_length (num name k least most) shown own spells = ap length spells
 field_length (zero_or name k least most) shown own spells = ap length spells
 field_length (counted name least most) shown own spells = ap length spells
@@ -127,6 +136,7 @@ field_spelled (split k ps) shown holds fits =
     let again = parts_again ps shown h.1 fits in
     let wide : 2 ^ bits_of ps ≤ 256 ^ k = leb-true (2 ^ bits_of ps) (256 ^ k) g.1 in
     (joined ps shown, omega (arith, wide, again.below), refl, again.again)
+field_spelled (word name k) shown holds fits = refl
 field_spelled (num name k least most) shown holds fits = refl
 field_spelled (zero_or name k least most) shown holds fits = refl
 field_spelled (counted name least most) shown holds fits = refl

@@ -14,7 +14,7 @@ use Rattle.byteorder.specs.Numbers.{little_from-lt}
 use Rattle.mu_model_wire.specs.declared.Refusal.{Refusal}
 use Rattle.mu_model_wire.specs.declared.Why.{Why}
 use Rattle.mu_model_wire.specs.declared.Why.TheVariants.{Opcode, Short, Value, Long}
-use Rattle.mu_model_wire.specs.Fields.{Part, part, rfu, Field, num, zero_or, split, counted, whole, pattern, Fields, end, rest, repeated, ◌▹◌, when, where_left, Row, Shown, number, octets as shown_octets, Message}
+use Rattle.mu_model_wire.specs.Fields.{Part, part, rfu, Field, word, num, zero_or, split, counted, whole, pattern, Fields, end, rest, repeated, ◌▹◌, when, where_left, Row, Shown, number, octets as shown_octets, Message}
 use Rattle.mu_model_wire.specs.Reading.{◌>>=◌, Left, after, refuse, word_at, octets_at, number_at, zero_or_number_at, counted_at, pattern_at, or_value, parts_in, parts_of, field_at, entry_at, entries_at, rest_at, fields_at, opcode_at, fields_of, row_at, message_at, value_of, is_one_of}
 use Rattle.mu_model_wire.specs.Spelling.{begins_with, part_count, shown_count, PartsFit, FieldFits, EntryFits, EntriesFit, FieldsFit, RowFits, Fits, fields_spelling, opcode_spelling, row_spelling}
 
@@ -143,6 +143,11 @@ zero_or_takes k least most left x octets e =
     subst (λ (y : ℕ × Left). ((y.0 ≡ 0) ⊎ ((least ≤ y.0) × (y.0 ≤ most))) × (left.octets ≡ little_bytes k y.0 ++ y.1.octets)) g.1 (allowed b.0.0 least most g.0, (word_spells k left b.0 octets b.1).0)
 
 field_takes : (f : Field) (left : Left) (x : List Shown × Left) (more : List Shown) → AreOctets left.octets → field_at f left ≡ Ok x → Taken f left x.1 x.0 more
+field_takes (word name k) left x more octets e =
+    let b = bind_ok (word_at k left) (λ w. Ok (number name w.0 ∷ [], w.1)) x e in
+    let t = word_spells k left b.0 octets b.1 in
+    let is : (number name b.0.0 ∷ [], b.0.1) ≡ x = cc in
+    subst (λ (y : List Shown × Left). Taken (word name k) left y.1 y.0 more) is (record { fits = (refl, t.1); count = refl; own = little_bytes k b.0.0; split = t.0; spelled = refl })
 field_takes (num name k least most) left x more octets e =
     let b = bind_ok (number_at k least most left) (λ w. Ok (number name w.0 ∷ [], w.1)) x e in
     let t = number_takes k least most left b.0 octets b.1 in
@@ -236,6 +241,9 @@ entries_take (suc fuel) fs left es some holds octets enough e =
 -- ---- fields
 
 field_begins : (f : Field) (name : ℕ) (shown : List Shown) → field_leads name f ≡ true → FieldFits f shown → begins_with name shown ≡ true
+field_begins (word n k) name [] leads fits = absurd fits
+field_begins (word n k) name (shown_octets m os ∷ shown) leads fits = absurd fits
+field_begins (word n k) name (number m v ∷ shown) leads fits = rw fits.0 leads
 field_begins (num n k least most) name [] leads fits = absurd fits
 field_begins (num n k least most) name (shown_octets m os ∷ shown) leads fits = absurd fits
 field_begins (num n k least most) name (number m v ∷ shown) leads fits = rw fits.0 leads
@@ -254,6 +262,9 @@ field_begins (pattern n) name (shown_octets m os ∷ shown) leads fits = absurd 
 field_begins (pattern n) name (number m v ∷ shown) leads fits = rw fits.0 leads
 
 field_begins_not : (f : Field) (name : ℕ) (shown : List Shown) → field_avoids name f ≡ true → FieldFits f shown → begins_with name shown ≡ false
+field_begins_not (word n k) name [] avoids fits = absurd fits
+field_begins_not (word n k) name (shown_octets m os ∷ shown) avoids fits = absurd fits
+field_begins_not (word n k) name (number m v ∷ shown) avoids fits = rw fits.0 (not-true (eqb n name) avoids)
 field_begins_not (num n k least most) name [] avoids fits = absurd fits
 field_begins_not (num n k least most) name (shown_octets m os ∷ shown) avoids fits = absurd fits
 field_begins_not (num n k least most) name (number m v ∷ shown) avoids fits = rw fits.0 (not-true (eqb n name) avoids)

@@ -5,7 +5,7 @@ use Rattle.mu_model_wire.specs.declared.Refusal.{Refusal}
 use Rattle.mu_model_wire.specs.declared.Why.{Why}
 use Rattle.mu_model_wire.specs.declared.Why.TheVariants.{Opcode, Short, Value, Long}
 use Rattle.mu_model_wire.specs.Patterns.{within, pattern_length, pattern_number}
-use Rattle.mu_model_wire.specs.Fields.{Part, part, rfu, Field, num, zero_or, split, counted, whole, pattern, Fields, end, rest, repeated, ◌▹◌, when, where_left, Row, Shown, number, octets, Message}
+use Rattle.mu_model_wire.specs.Fields.{Part, part, rfu, Field, word, num, zero_or, split, counted, whole, pattern, Fields, end, rest, repeated, ◌▹◌, when, where_left, Row, Shown, number, octets, Message}
 
 -- the octets that are left, and the place of the first of them
 pub record Left : Type 0 where
@@ -97,6 +97,9 @@ counted_at least most left = do
   octets_at w.0 w.1
 
 abbrev pub field_at : Field → Left → Result (List Shown × Left) Refusal
+field_at (word name k) left = do
+  w ← word_at k left
+  Ok (number name w.0 ∷ [], w.1)
 field_at (num name k least most) left = do
   w ← number_at k least most left
   Ok (number name w.0 ∷ [], w.1)

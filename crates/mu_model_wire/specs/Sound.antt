@@ -1,6 +1,6 @@
 -- Which rows can be read back: a test of the table alone.
 use Rattle.std.specs.Prelude.{ℕ, ◌+◌, ◌^◌, Bool, true, false, List, [], ◌∷◌, ◌++◌, nat_lt, nat_le, ◌&&◌, ◌==◌, not, ◌||◌}
-use Rattle.mu_model_wire.specs.Fields.{Part, part, rfu, Field, num, zero_or, split, counted, whole, pattern, Fields, end, rest, repeated, ◌▹◌, when, where_left, Row}
+use Rattle.mu_model_wire.specs.Fields.{Part, part, rfu, Field, word, num, zero_or, split, counted, whole, pattern, Fields, end, rest, repeated, ◌▹◌, when, where_left, Row}
 use Rattle.mu_model_wire.specs.Patterns.{within}
 use Rattle.mu_model_wire.specs.Reading.{is_one_of}
 
@@ -16,6 +16,7 @@ parts_hold (rfu w ∷ ps) = parts_hold ps
 parts_hold (part name w least most ∷ ps) = nat_lt most (2 ^ w) && parts_hold ps
 
 abbrev pub field_holds : Field → Bool
+field_holds (word name k) = nat_lt 0 k
 field_holds (num name k least most) = nat_lt 0 k && nat_lt most (256 ^ k)
 field_holds (zero_or name k least most) = nat_lt 0 k && nat_lt most (256 ^ k)
 field_holds (split k ps) = nat_lt 0 k && nat_le (2 ^ bits_of ps) (256 ^ k) && parts_hold ps
@@ -34,6 +35,7 @@ has_field (f ∷ fs) = true
 
 -- what the field shows begins with this name, or with another
 abbrev pub field_leads : ℕ → Field → Bool
+field_leads name (word n k) = n == name
 field_leads name (num n k least most) = n == name
 field_leads name (zero_or n k least most) = n == name
 field_leads name (counted n least most) = n == name
@@ -42,6 +44,7 @@ field_leads name (pattern n) = n == name
 field_leads name _ = false
 
 abbrev pub field_avoids : ℕ → Field → Bool
+field_avoids name (word n k) = not (n == name)
 field_avoids name (num n k least most) = not (n == name)
 field_avoids name (zero_or n k least most) = not (n == name)
 field_avoids name (counted n least most) = not (n == name)
@@ -76,6 +79,7 @@ part_names (rfu w ∷ ps) = part_names ps
 part_names (part name w least most ∷ ps) = name ∷ part_names ps
 
 abbrev pub field_names : Field → List ℕ
+field_names (word n k) = n ∷ []
 field_names (num n k least most) = n ∷ []
 field_names (zero_or n k least most) = n ∷ []
 field_names (split k ps) = part_names ps

@@ -1,7 +1,7 @@
 -- The one spelling of a message with its unused bits 0, and which messages have one.
 use Rattle.std.specs.Prelude.{◌≡◌, ℕ, suc, ◌+◌, ◌*◌, ◌/◌, ◌%◌, ◌^◌, ◌<◌, ◌≤◌, Bool, false, List, [], ◌∷◌, ◌++◌, length, take, drop, Option, Some, None, nat_lt, ◌==◌, if◌then◌else◌, MatchBool, ◌⊎◌}
 use Rattle.byteorder.specs.Endian.{little_bytes}
-use Rattle.mu_model_wire.specs.Fields.{Part, part, rfu, Field, num, zero_or, split, counted, whole, pattern, Fields, end, rest, repeated, ◌▹◌, when, where_left, Row, Shown, number, octets, Message}
+use Rattle.mu_model_wire.specs.Fields.{Part, part, rfu, Field, word, num, zero_or, split, counted, whole, pattern, Fields, end, rest, repeated, ◌▹◌, when, where_left, Row, Shown, number, octets, Message}
 use Rattle.mu_model_wire.specs.Patterns.{pattern_spelling}
 use Rattle.mu_model_wire.specs.Reading.{value_of, is_one_of, fields_of}
 
@@ -28,6 +28,7 @@ begins_with name [] = false
 
 -- a field is spelled from the first things of a list
 abbrev pub field_spelling : Field → List Shown → List ℕ
+field_spelling (word name k) (number n v ∷ shown) = little_bytes k v
 field_spelling (num name k least most) (number n v ∷ shown) = little_bytes k v
 field_spelling (zero_or name k least most) (number n v ∷ shown) = little_bytes k v
 field_spelling (split k ps) shown = little_bytes k (joined ps shown)
@@ -79,6 +80,7 @@ PartsFit (part name w least most ∷ ps) (number n v ∷ shown) = (n ≡ name) �
 PartsFit (part name w least most ∷ ps) shown = ⊥
 
 abbrev pub FieldFits : Field → List Shown → Type 0
+FieldFits (word name k) (number n v ∷ shown) = (n ≡ name) × (v < 256 ^ k)
 FieldFits (num name k least most) (number n v ∷ shown) = (n ≡ name) × (least ≤ v) × (v ≤ most)
 FieldFits (zero_or name k least most) (number n v ∷ shown) = (n ≡ name) × ((v ≡ 0) ⊎ ((least ≤ v) × (v ≤ most)))
 FieldFits (split k ps) shown = PartsFit ps shown

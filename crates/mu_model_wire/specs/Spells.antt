@@ -1,13 +1,14 @@
 -- Which octets spell a message: those of its fields in their order, where unused bits have any value.
 use Rattle.std.specs.Prelude.{◌≡◌, ℕ, ◌<◌, ◌^◌, List, [], ◌∷◌, ◌++◌, take, drop, Option, Some, None, MatchBool}
 use Rattle.byteorder.specs.Endian.{little_bytes}
-use Rattle.mu_model_wire.specs.Fields.{Field, num, zero_or, split, counted, whole, pattern, Fields, end, rest, repeated, ◌▹◌, when, where_left, Row, Shown, Message}
+use Rattle.mu_model_wire.specs.Fields.{Field, word, num, zero_or, split, counted, whole, pattern, Fields, end, rest, repeated, ◌▹◌, when, where_left, Row, Shown, Message}
 use Rattle.mu_model_wire.specs.Reading.{value_of, is_one_of, fields_of, parts_of}
 use Rattle.mu_model_wire.specs.Spelling.{part_count, shown_count, field_spelling, rest_spelling, opcode_spelling, begins_with}
 
 -- a field has one spelling, but a split number any whose parts are as shown: its other bits are unused
 abbrev pub FieldSpells : Field → List Shown → List ℕ → Type 0
 FieldSpells (split k ps) shown bytes = (n : ℕ) × (n < 256 ^ k) × (bytes ≡ little_bytes k n) × (parts_of ps n ≡ take (part_count ps) shown)
+FieldSpells (word name k) shown bytes = bytes ≡ field_spelling (word name k) shown
 FieldSpells (num name k least most) shown bytes = bytes ≡ field_spelling (num name k least most) shown
 FieldSpells (zero_or name k least most) shown bytes = bytes ≡ field_spelling (zero_or name k least most) shown
 FieldSpells (counted name least most) shown bytes = bytes ≡ field_spelling (counted name least most) shown
