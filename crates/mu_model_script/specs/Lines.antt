@@ -62,30 +62,51 @@ abbrev pub or_refuse : {A : Type 0} → Option A → ℕ → Result A LineFault
 or_refuse (Some x) at = Ok x
 or_refuse None at = refuse at BadToken
 
--- what the tokens say, or the first place that isn't as the kinds ask; `end` is the line's length
-abbrev pub values_at : List Kind → List Token → ℕ → Result (List Value) LineFault
-values_at [] [] end = Ok []
-values_at [] (token ∷ tokens) end = refuse token.at BadToken
-values_at (kind ∷ kinds) [] end = refuse end BadToken
-values_at (kind ∷ kinds) (token ∷ tokens) end = do
-  value ← or_refuse (value_of kind token.octets) token.at
-  values ← values_at kinds tokens end
-  Ok (value ∷ values)
+-- the tokens that are left to read, and the line's length
+pub record Left : Type 0 where
+  pub tokens : List Token
+  pub end : ℕ
+
+-- the next token, or the line's length as the place where it lacks
+abbrev pub next_token : List Token → ℕ → Result (Token × Left) LineFault
+next_token [] end = refuse end BadToken
+next_token (token ∷ tokens) end = Ok (token, record { tokens = tokens; end = end })
+
+-- what the next token says
+unfoldable pub value_at : Kind → Left → Result (Value × Left) LineFault
+value_at kind left = do
+  next ← next_token left.tokens left.end
+  value ← or_refuse (value_of kind next.0.octets) next.0.at
+  Ok (value, next.1)
+
+-- that no token is left
+abbrev pub nothing_left : List Token → Result (List Value) LineFault
+nothing_left [] = Ok []
+nothing_left (token ∷ tokens) = refuse token.at BadToken
+
+-- what the tokens say, or the first place that isn't as the kinds ask
+abbrev pub values_at : List Kind → Left → Result (List Value) LineFault
+values_at [] left = nothing_left left.tokens
+values_at (kind ∷ kinds) left = do
+  value ← value_at kind left
+  values ← values_at kinds value.1
+  Ok (value.0 ∷ values)
 
 abbrev pub row_of : List LineRow → List ℕ → Option LineRow
 row_of [] word = None
 row_of (row ∷ rows) word = if bytes_eq word row.word then Some row else row_of rows word
 
-abbrev pub event_by : LineRow → List Token → ℕ → Result Event LineFault
-event_by row tokens end = do
-  values ← values_at row.kinds tokens end
-  or_refuse (row.event values) end
+abbrev pub event_by : LineRow → Left → Result Event LineFault
+event_by row left = do
+  values ← values_at row.kinds left
+  or_refuse (row.event values) left.end
 
-abbrev pub event_of : List LineRow → List Token → ℕ → Result Event LineFault
-event_of rows [] end = refuse end BadToken
-event_of rows (word ∷ tokens) end = do
-  row ← or_refuse (row_of rows word.octets) word.at
-  event_by row tokens end
+-- the row is that of the first token
+abbrev pub event_of : List LineRow → Left → Result Event LineFault
+event_of rows left = do
+  word ← next_token left.tokens left.end
+  row ← or_refuse (row_of rows word.0.octets) word.0.at
+  event_by row word.1
 
 -- a line that says nothing: an empty one, or a comment
 abbrev pub is_silent : List ℕ → Bool
@@ -101,4 +122,4 @@ abbrev pub line_event : List ℕ → Result (Option Event) LineFault
 line_event line =
     if nat_lt 4096 (length line) then refuse 4096 Long
     else if is_silent line then Ok None
-    else some_event (event_of line_rows (tokens_of line) (length line))
+    else some_event (event_of line_rows (record { tokens = tokens_of line; end = length line }))

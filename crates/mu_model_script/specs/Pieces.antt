@@ -1,16 +1,10 @@
 -- Octets cut at a separator: a script into lines, a line into tokens.
-use Rattle.std.specs.Prelude.{ℕ, ◌+◌, ◌==◌, List, [], ◌∷◌, length, if◌then◌else◌}
-
--- the octet at the front of the first piece
-abbrev pub onto_first : ℕ → List (List ℕ) → List (List ℕ)
-onto_first octet [] = (octet ∷ []) ∷ []
-onto_first octet (piece ∷ pieces) = (octet ∷ piece) ∷ pieces
+use Rattle.std.specs.Prelude.{ℕ, ◌+◌, ◌==◌, List, [], ◌∷◌, length}
+use Rattle.std.specs.List.{slice_split}
 
 -- the pieces before, between and behind the separators: one more than there are separators
 abbrev pub pieces : ℕ → List ℕ → List (List ℕ)
-pieces separator [] = [] ∷ []
-pieces separator (octet ∷ octets) =
-    if octet == separator then [] ∷ pieces separator octets else onto_first octet (pieces separator octets)
+pieces separator octets = slice_split (λ octet. octet == separator) octets
 
 -- LF, which ends a line, and the blank between two tokens
 abbrev pub line_feed : ℕ

@@ -1,6 +1,8 @@
 //! What a script is: its lines, what each of them says, and every text that a script's run writes.
 #![tactic(auto)]
 
+use thiserror::Error;
+
 /// Why a line by itself is no line of a script (this profile).
 #[derive(Clone, Copy, Debug, PartialEq, Eq)]
 pub enum LineWhy {
@@ -12,7 +14,8 @@ pub enum LineWhy {
 
 /// The first place at which a line is no line of a script: the first octet of the token that shows it,
 /// the line's length where the token lacks, 4,096 in a line that is too long.
-#[derive(Clone, Copy, Debug, PartialEq, Eq)]
+#[derive(Clone, Copy, Debug, PartialEq, Eq, Error)]
+#[error("{why:?} at {at}")]
 pub struct LineFault {
     pub at: u16,
     pub why: LineWhy,
