@@ -39,8 +39,8 @@ pub(crate) fn read_request(payload: &[u8]) -> Option<Request>
 fn information_get(mut cursor: Cursor) -> Result<Request, Refusal>
     ensures { Gives message_of result (row_at (Some information_get) 0x8308 cursor.entry) }
 {
-    let first = cursor.u8_in(0, u8::MAX)?;
-    let limit = cursor.u8_in(0, u8::MAX)?;
+    let first = cursor.u8()?;
+    let limit = cursor.u8()?;
     cursor.end()?;
     Ok(Request::InformationGet { first, limit })
 }

@@ -2,4 +2,5 @@
 #![tactic(auto)]
 
 mod grammar;
+mod node;
 mod reader;
