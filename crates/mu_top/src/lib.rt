@@ -2,5 +2,6 @@
 #![tactic(auto)]
 
 mod grammar;
+mod member;
 mod node;
 mod reader;
