@@ -2,6 +2,8 @@
 #![tactic(auto)]
 
 mod grammar;
+mod lines;
 mod member;
 mod node;
 mod reader;
+mod world;

@@ -1,5 +1,5 @@
 // The members of a script.
-ghost use Rattle.std.specs.Prelude.{◌≡◌, [], Some, map, nat_eq, IfSome, MatchOption, ℕ};
+ghost use Rattle.std.specs.Prelude.{◌≡◌, [], ◌∷◌, Some, map, nat_eq, IfSome, MatchOption, ℕ};
 ghost use Rattle.std.specs.Map.{lookup, set_value};
 ghost use Rattle.mu_codec.specs.View.{packet_of};
 ghost use Rattle.mu_model_node.specs.Step.{PacketComes, node_step};
@@ -8,6 +8,7 @@ ghost use Rattle.mu_model_world.specs.World.{config_of};
 use crate::node::Node;
 use indexmap::IndexMap;
 use mu_codec::{Outbox, Packet};
+use mu_image::Meta;
 use mu_model_node::NodeConfig;
 use std::marker::Model;
 
@@ -50,6 +51,13 @@ impl Member {
             address,
             group: self.group,
         }
+    }
+
+    /// The metadata of its active image.
+    pub(crate) fn active(&self) -> Meta
+        ensures { map (λ image. image.meta) self.now.state.durable.images ≡ result ∷ [] }
+    {
+        self.node.active()
     }
 
     /// A packet that comes to it at its present moment.

@@ -22,7 +22,7 @@ use std::marker::Model;
 const OWN_COMPANY: u16 = 0xFFFF;
 
 /// The octets of a page of flash.
-const PAGE_OCTETS: u32 = 4096;
+pub(crate) const PAGE_OCTETS: u32 = 4096;
 
 /// A node that has one image and keeps its flash in plain memory.
 #[derive(Drop)]
@@ -46,10 +46,20 @@ impl Model for Node {
     } };
 }
 
-fn is_addressee(config: &NodeConfig, packet: &Packet) -> bool
+pub(crate) fn is_addressee(config: &NodeConfig, packet: &Packet) -> bool
     ensures { result ≡ is_addressee config.now (packet_of packet.now) }
 {
     packet.to == config.address || (config.group != 0 && packet.to == config.group)
+}
+
+/// How many octets a script's image has.
+pub(crate) fn image_size(image: &Content) -> u32
+    ensures { result ≡ length (content_octets (content image.now)) }
+{
+    match image {
+        Content::Hex(octets) => octets.len() as u32,
+        Content::Made { size, .. } => *size,
+    }
 }
 
 /// The octets of a script's image.
