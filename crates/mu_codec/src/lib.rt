@@ -4,6 +4,8 @@
 mod cursor;
 mod packet;
 mod put;
+#[cfg(test)]
+mod tests;
 
 pub use cursor::Cursor;
 pub use mu_model_wire::{Refusal, Why};

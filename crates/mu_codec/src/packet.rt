@@ -4,7 +4,7 @@ use arrayvec::ArrayVec;
 pub type Payload = ArrayVec<u8, 380>;
 
 /// A message on its way between two members.
-#[derive(Drop, Debug, PartialEq, Eq)]
+#[derive(Drop, Clone, Debug, Default, PartialEq, Eq)]
 pub struct Packet {
     /// The unicast address of the sender.
     pub from: u16,
