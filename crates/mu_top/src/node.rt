@@ -13,6 +13,7 @@ use crate::grammar::{Request, information_status, read_request};
 use arrayvec::ArrayVec;
 use mu_codec::{Outbox, Packet, Payload};
 use mu_image::{Digesting, Fwid, Meta, fwid_of, make_image};
+use mu_model_image::laws;
 use mu_model_node::NodeConfig;
 use mu_script::Content;
 use std::alloc::{AllocError, Global};
@@ -56,6 +57,7 @@ pub(crate) fn is_addressee(config: &NodeConfig, packet: &Packet) -> bool
 pub(crate) fn image_size(image: &Content) -> u32
     ensures { result ≡ length (content_octets (content image.now)) }
 {
+    laws::made();
     match image {
         Content::Hex(octets) => octets.len() as u32,
         Content::Made { size, .. } => *size,

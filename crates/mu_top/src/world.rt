@@ -1,7 +1,9 @@
 // The world of a script, with its nodes in plain memory.
-ghost use Rattle.std.specs.Prelude.{◌≡◌, ◌≤◌, ◌<◌, ◌++◌, ◌^◌, [], ◌∷◌, map, length, ℕ, List, IsTrue, IfErr, OnOk};
+ghost use Rattle.std.specs.Prelude.{◌≡◌, ◌≤◌, ◌<◌, ◌++◌, ◌^◌, [], ◌∷◌, map, length, ℕ, List, IsTrue, IfErr, OnOk, if◌then◌else◌, slice_get};
+ghost use Rattle.std.specs.Option.{option_copied};
 ghost use Rattle.mu_codec.specs.View.{packet_of};
 ghost use Rattle.mu_model_script.specs.Event.{Node as NodeLine, Say as SayLine, Deliver as DeliverLine, Active as ActiveLine};
+ghost use Rattle.mu_model_script.specs.Texts.{unread_text};
 ghost use Rattle.mu_script.specs.View.{event, content};
 ghost use Rattle.mu_top.specs.Moved.{Did, Fails, FitsLimits};
 
@@ -119,10 +121,11 @@ impl World {
         pages: u16,
         version: u32,
         image: &Content,
+        lines: &Lines,
     ) -> Result<(), WorldFault>
         requires { pages ≤ 256 }
-        ensures ok { (text : List ℕ) → OnOk result (Did self.old (NodeLine address group pages version (content image.now)) text text self.new) }
-        ensures err { (text : List ℕ) → IfErr result (Fails self.old (NodeLine address group pages version (content image.now)) text text self.new) }
+        ensures ok { OnOk result (Did self.old (NodeLine address group pages version (content image.now)) lines.now lines.now self.new) }
+        ensures err { IfErr result (Fails self.old (NodeLine address group pages version (content image.now)) lines.now lines.now self.new) }
     {
         if self.begun || self.members.len() >= MOST_MEMBERS {
             return Err(bad(0, BadWhy::Member));
@@ -172,7 +175,7 @@ impl World {
         let Some(member) = self.members.get(&address) else {
             return Err(bad(2, BadWhy::Member));
         };
-        let Some(packet) = self.bag.get(number as usize) else {
+        let Some(packet) = packet_at(&self.bag, number) else {
             return Err(bad(1, BadWhy::Packet));
         };
         if !is_addressee(&member.config(address), packet) {
@@ -181,9 +184,7 @@ impl World {
         let mut out = Outbox::new();
         let handled = hand(&mut self.members, address, packet, &mut out);
         self.begun = true;
-        if !handled {
-            lines.unread(number, address)?;
-        }
+        print_unread(handled, number, address, lines)?;
         self.send_all(out, lines)
     }
 
@@ -214,11 +215,34 @@ impl World {
                 pages,
                 version,
                 content,
-            } => self.node(*addr, *group, *pages, *version, content),
+            } => self.node(*addr, *group, *pages, *version, content, lines),
             Event::Say { from, to, payload } => self.say(*from, *to, payload, lines),
             Event::Deliver { packet, addr } => self.deliver(*packet, *addr, lines),
             Event::Active { addr } => self.active(*addr, lines),
         }
+    }
+}
+
+/// The packet of that number, if there is one.
+fn packet_at(bag: &[Packet], number: u32) -> Option<&Packet>
+    ensures { option_copied result ≡ slice_get bag.now number }
+{
+    bag.get(number as usize)
+}
+
+/// Prints that a packet was unread at a member, where it wasn't handled.
+fn print_unread(
+    handled: bool,
+    number: u32,
+    address: u16,
+    lines: &mut Lines,
+) -> Result<(), AllocError>
+    ensures { OnOk result (lines.new ≡ lines.old ++ (if handled then [] else unread_text number address)) }
+{
+    if handled {
+        Ok(())
+    } else {
+        lines.unread(number, address)
     }
 }
 
