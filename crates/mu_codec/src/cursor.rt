@@ -1,13 +1,15 @@
-ghost use Rattle.std.specs.Prelude.{◌≡◌, ◌≤◌, ◌<◌, ◌+◌, OnOk, IfOk, ◌^◌, [], length, slice_index};
+ghost use Rattle.std.specs.Prelude.{◌≡◌, ◌≤◌, ◌<◌, ◌+◌, OnOk, OnErr, IfOk, ◌^◌, [], length, slice_index};
 ghost use Rattle.byteorder.specs.Endian.{little_number};
 ghost use Rattle.mu_model_wire.specs.Patterns.{pattern_length, pattern_number, follows};
-ghost use Rattle.mu_model_wire.specs.Reading.{Left, Gives, Reads, number_at, pattern_at, opcode_at, Leaves, LeavesBy, ReadsBy, counted_at, word_at, octets_at, rest_at, nothing_left};
+ghost use Rattle.mu_model_wire.specs.Reading.{Gives, Leaves, LeavesBy, after, word_at, octets_at, number_at, zero_or_number_at, pattern_at, opcode_at, counted_at, rest_at, nothing_left};
 
 use byteorder::{ByteOrder, LittleEndian};
 use mu_model_wire::{Refusal, Why};
 use std::marker::Model;
 
-/// The octets of a payload that are left to read.
+/// Reads a payload from its first octet to its last. Contracts see the place and the octets that are left.
+///
+/// A call that refuses says at which place and why, and leaves the cursor as it was.
 #[derive(Drop)]
 pub struct Cursor<'a> {
     left: &'a [u8],
@@ -68,7 +70,7 @@ fn pattern_number(octets: &[u8]) -> Option<u16>
 }
 
 impl<'a> Cursor<'a> {
-    /// A cursor before the first of the octets.
+    /// A cursor before the first of the octets, which are at most 380.
     pub fn new(bytes: &'a [u8]) -> Cursor<'a>
         requires { length bytes.now ≤ 380 }
         ensures { result ≡ record { at = 0; octets = bytes.now } }
@@ -76,7 +78,7 @@ impl<'a> Cursor<'a> {
         Cursor { left: bytes, at: 0 }
     }
 
-    /// How many octets were read.
+    /// How many octets were read: the place of the first that is left.
     pub fn place(&self) -> u16
         ensures { result ≡ self.now.at }
     {
@@ -90,6 +92,7 @@ impl<'a> Cursor<'a> {
         self.left.len() as u16
     }
 
+    /// A number of one octet. `Short` where none is left.
     #[tactic(auto, unfolding(mu_model_wire::specs::Reading::word_at))]
     pub fn u8(&mut self) -> Result<u8, Refusal>
         ensures reads { Leaves result (word_at 1 self.old) self.old self.new }
@@ -98,12 +101,12 @@ impl<'a> Cursor<'a> {
         if self.left.len() < 1 {
             return Err(self.refuse(Why::Short));
         }
-        let (front, rest) = self.left.split_at(1);
-        self.left = rest;
-        self.at += 1;
-        Ok(front[0])
+        let number = self.left[0];
+        self.skip(1);
+        Ok(number)
     }
 
+    /// A number of two octets, the lower one first. `Short` where they lack.
     #[tactic(auto, unfolding(mu_model_wire::specs::Reading::word_at))]
     pub fn u16(&mut self) -> Result<u16, Refusal>
         ensures reads { Leaves result (word_at 2 self.old) self.old self.new }
@@ -113,38 +116,39 @@ impl<'a> Cursor<'a> {
             return Err(self.refuse(Why::Short));
         }
         let number = LittleEndian::read_u16(self.left);
-        self.left = &self.left[2..];
-        self.at += 2;
+        self.skip(2);
         Ok(number)
     }
 
+    /// A number of four octets, the lowest first. `Short` where they lack.
     #[tactic(auto, unfolding(mu_model_wire::specs::Reading::word_at))]
     pub fn u32(&mut self) -> Result<u32, Refusal>
-        ensures { Leaves result (word_at 4 self.old) self.old self.new }
+        ensures reads { Leaves result (word_at 4 self.old) self.old self.new }
+        ensures taken { OnOk result (length self.new.octets + 4 ≡ length self.old.octets) }
     {
         if self.left.len() < 4 {
             return Err(self.refuse(Why::Short));
         }
         let number = LittleEndian::read_u32(self.left);
-        self.left = &self.left[4..];
-        self.at += 4;
+        self.skip(4);
         Ok(number)
     }
 
+    /// A number of eight octets, the lowest first. `Short` where they lack.
     #[tactic(auto, unfolding(mu_model_wire::specs::Reading::word_at))]
     pub fn u64(&mut self) -> Result<u64, Refusal>
-        ensures { Leaves result (word_at 8 self.old) self.old self.new }
+        ensures reads { Leaves result (word_at 8 self.old) self.old self.new }
+        ensures taken { OnOk result (length self.new.octets + 8 ≡ length self.old.octets) }
     {
         if self.left.len() < 8 {
             return Err(self.refuse(Why::Short));
         }
         let number = LittleEndian::read_u64(self.left);
-        self.left = &self.left[8..];
-        self.at += 8;
+        self.skip(8);
         Ok(number)
     }
 
-    /// A number of five octets.
+    /// A number of five octets, the lowest first. `Short` where they lack.
     #[tactic(auto, unfolding(mu_model_wire::specs::Reading::word_at))]
     pub fn u40(&mut self) -> Result<u64, Refusal>
         ensures reads { Leaves result (word_at 5 self.old) self.old self.new }
@@ -155,21 +159,79 @@ impl<'a> Cursor<'a> {
             return Err(self.refuse(Why::Short));
         }
         let number = five_octets(self.left);
-        self.left = &self.left[5..];
-        self.at += 5;
+        self.skip(5);
         Ok(number)
     }
 
-    /// Octets behind their length, which is in a range.
-    pub fn counted(&mut self, least: u8, most: u8) -> Result<&'a [u8], Refusal>
-        ensures reads { ReadsBy (λ octets. octets.now) result (counted_at least most self.old) self.new }
-        ensures taken { OnOk result (length self.new.octets + 1 + least ≤ length self.old.octets) }
+    /// A number of one octet in a range. `Short` where it lacks, `Value` where it is out of the range.
+    #[tactic(auto, unfolding(mu_model_wire::specs::Reading::word_at))]
+    pub fn u8_in(&mut self, least: u8, most: u8) -> Result<u8, Refusal>
+        ensures reads { Leaves result (number_at 1 least most self.old) self.old self.new }
+        ensures taken { OnOk result (length self.new.octets + 1 ≡ length self.old.octets) }
     {
-        let count = self.u8_in(least, most)?;
-        self.octets(count as u16)
+        if self.left.len() < 1 {
+            return Err(self.refuse(Why::Short));
+        }
+        let number = self.left[0];
+        if number < least || most < number {
+            return Err(self.refuse(Why::Value));
+        }
+        self.skip(1);
+        Ok(number)
     }
 
-    /// The next octets, so many.
+    /// A number of two octets in a range. `Short` where they lack, `Value` where it is out of the range.
+    #[tactic(auto, unfolding(mu_model_wire::specs::Reading::word_at))]
+    pub fn u16_in(&mut self, least: u16, most: u16) -> Result<u16, Refusal>
+        ensures reads { Leaves result (number_at 2 least most self.old) self.old self.new }
+        ensures taken { OnOk result (length self.new.octets + 2 ≡ length self.old.octets) }
+    {
+        if self.left.len() < 2 {
+            return Err(self.refuse(Why::Short));
+        }
+        let number = LittleEndian::read_u16(self.left);
+        if number < least || most < number {
+            return Err(self.refuse(Why::Value));
+        }
+        self.skip(2);
+        Ok(number)
+    }
+
+    /// A number of two octets that is 0 or in a range. `Short` where they lack, `Value` where it is neither.
+    #[tactic(auto, unfolding(mu_model_wire::specs::Reading::word_at))]
+    pub fn u16_zero_or(&mut self, least: u16, most: u16) -> Result<u16, Refusal>
+        ensures reads { Leaves result (zero_or_number_at 2 least most self.old) self.old self.new }
+        ensures taken { OnOk result (length self.new.octets + 2 ≡ length self.old.octets) }
+    {
+        if self.left.len() < 2 {
+            return Err(self.refuse(Why::Short));
+        }
+        let number = LittleEndian::read_u16(self.left);
+        if number != 0 && (number < least || most < number) {
+            return Err(self.refuse(Why::Value));
+        }
+        self.skip(2);
+        Ok(number)
+    }
+
+    /// A number of four octets in a range. `Short` where they lack, `Value` where it is out of the range.
+    #[tactic(auto, unfolding(mu_model_wire::specs::Reading::word_at))]
+    pub fn u32_in(&mut self, least: u32, most: u32) -> Result<u32, Refusal>
+        ensures reads { Leaves result (number_at 4 least most self.old) self.old self.new }
+        ensures taken { OnOk result (length self.new.octets + 4 ≡ length self.old.octets) }
+    {
+        if self.left.len() < 4 {
+            return Err(self.refuse(Why::Short));
+        }
+        let number = LittleEndian::read_u32(self.left);
+        if number < least || most < number {
+            return Err(self.refuse(Why::Value));
+        }
+        self.skip(4);
+        Ok(number)
+    }
+
+    /// The next octets, so many. `Short` where they lack.
     #[tactic(auto, unfolding(mu_model_wire::specs::Reading::octets_at))]
     pub fn octets(&mut self, count: u16) -> Result<&'a [u8], Refusal>
         ensures reads { LeavesBy (λ octets. octets.now) result (octets_at count self.old) self.old self.new }
@@ -179,15 +241,15 @@ impl<'a> Cursor<'a> {
         if self.left() < count {
             return Err(self.refuse(Why::Short));
         }
-        let (front, rest) = self.left.split_at(count as usize);
-        self.left = rest;
-        self.at += count;
-        Ok(front)
+        let octets = &self.left[..count as usize];
+        self.skip(count);
+        Ok(octets)
     }
 
-    /// The next sixteen octets.
+    /// The next sixteen octets. `Short` where they lack.
     pub fn sixteen(&mut self) -> Result<[u8; 16], Refusal>
         ensures reads { Leaves result (octets_at 16 self.old) self.old self.new }
+        ensures taken { OnOk result (length self.new.octets + 16 ≡ length self.old.octets) }
     {
         let octets = self.octets(16)?;
         let mut all = [0; 16];
@@ -195,10 +257,37 @@ impl<'a> Cursor<'a> {
         Ok(all)
     }
 
-    /// All octets that are left.
-    pub fn rest(&self, least: u16, most: u16) -> Result<&'a [u8], Refusal>
-        requires { most ≤ 380 }
-        ensures { Gives (λ octets. octets.now) result (rest_at least most self.now) }
+    /// Octets behind an octet with their number. `Short` at the first that lacks of either, `Value` where the
+    /// number is out of the range.
+    #[tactic(auto, unfolding(mu_model_wire::specs::Reading::word_at, mu_model_wire::specs::Reading::octets_at))]
+    pub fn counted(&mut self, least: u8, most: u8) -> Result<&'a [u8], Refusal>
+        ensures reads { LeavesBy (λ octets. octets.now) result (counted_at least most self.old) self.old self.new }
+        ensures taken { OnOk result (length self.new.octets + 1 + least ≤ length self.old.octets) }
+    {
+        if self.left.len() < 1 {
+            return Err(self.refuse(Why::Short));
+        }
+        let count = self.left[0];
+        if count < least || most < count {
+            return Err(self.refuse(Why::Value));
+        }
+        let behind = &self.left[1..];
+        if behind.len() < count as usize {
+            return Err(Refusal {
+                at: self.at + 1,
+                why: Why::Short,
+            });
+        }
+        self.skip(count as u16 + 1);
+        Ok(&behind[..count as usize])
+    }
+
+    /// All octets that are left. `Short` at the place where fewer than `least` are left, `Long` at the place and
+    /// `most` where more than `most` are.
+    pub fn rest(&mut self, least: u16, most: u16) -> Result<&'a [u8], Refusal>
+        ensures gives { Gives (λ octets. octets.now) result (rest_at least most self.old) }
+        ensures taken { OnOk result (self.new ≡ record { at = self.old.at + length self.old.octets; octets = [] }) }
+        ensures unchanged { OnErr result (self.new ≡ self.old) }
     {
         if self.left() < least {
             return Err(self.refuse(Why::Short));
@@ -209,10 +298,12 @@ impl<'a> Cursor<'a> {
                 why: Why::Long,
             });
         }
-        Ok(self.left)
+        let octets = self.left;
+        self.skip(octets.len() as u16);
+        Ok(octets)
     }
 
-    /// That no octet is left.
+    /// That no octet is left. `Long` at the place where one is.
     pub fn end(&self) -> Result<(), Refusal>
         ensures { Gives (λ _. ([], [])) result (nothing_left self.now) }
     {
@@ -223,74 +314,33 @@ impl<'a> Cursor<'a> {
         }
     }
 
-    /// The number of the opcode, of one octet or two.
-    #[tactic(auto, unfolding(mu_model_wire::specs::Reading::opcode_at))]
+    /// An opcode: one octet, or two where the first is 80 to BF. `Short` at the first where one of them lacks.
+    #[tactic(auto, unfolding(mu_model_wire::specs::Reading::opcode_at, mu_model_wire::specs::Reading::word_at))]
     pub fn opcode(&mut self) -> Result<u16, Refusal>
-        ensures reads { Reads result (opcode_at self.old) self.new }
+        ensures reads { Leaves result (opcode_at self.old) self.old self.new }
         ensures taken { OnOk result (length self.new.octets < length self.old.octets) }
         ensures wide { IfOk result (λ opcode. 256 ≤ opcode → length self.new.octets + 2 ≡ length self.old.octets) }
     {
-        let short = self.refuse(Why::Short);
-        let first = self.u8()?;
+        if self.left.len() < 1 {
+            return Err(self.refuse(Why::Short));
+        }
+        let first = self.left[0];
         if first < 0x80 || first > 0xBF {
+            self.skip(1);
             return Ok(first as u16);
         }
-        if self.left.is_empty() {
-            return Err(short);
+        if self.left.len() < 2 {
+            return Err(self.refuse(Why::Short));
         }
-        let second = self.left[0];
-        self.left = &self.left[1..];
-        self.at += 1;
+        let second = self.left[1];
+        self.skip(2);
         Ok(first as u16 * 256 + second as u16)
     }
 
-    /// A number in a range.
-    pub fn u8_in(&mut self, least: u8, most: u8) -> Result<u8, Refusal>
-        ensures reads { Reads result (number_at 1 least most self.old) self.new }
-        ensures taken { OnOk result (length self.new.octets + 1 ≡ length self.old.octets) }
-    {
-        let wrong = self.refuse(Why::Value);
-        let number = self.u8()?;
-        if number < least || most < number {
-            return Err(wrong);
-        }
-        Ok(number)
-    }
-
-    pub fn u16_in(&mut self, least: u16, most: u16) -> Result<u16, Refusal>
-        ensures reads { Reads result (number_at 2 least most self.old) self.new }
-        ensures taken { OnOk result (length self.new.octets + 2 ≡ length self.old.octets) }
-    {
-        let wrong = self.refuse(Why::Value);
-        let number = self.u16()?;
-        if number < least || most < number {
-            return Err(wrong);
-        }
-        Ok(number)
-    }
-
-    pub fn u32_in(&mut self, least: u32, most: u32) -> Result<u32, Refusal>
-        ensures { Reads result (number_at 4 least most self.old) self.new }
-    {
-        let wrong = self.refuse(Why::Value);
-        let number = self.u32()?;
-        if number < least || most < number {
-            return Err(wrong);
-        }
-        Ok(number)
-    }
-
-    /// A number of any value.
-    pub fn u64_any(&mut self) -> Result<u64, Refusal>
-        ensures { Reads result (number_at 8 0 0xFFFF_FFFF_FFFF_FFFF self.old) self.new }
-    {
-        self.u64()
-    }
-
-    /// A number pattern.
+    /// A number pattern. `Short` where its octets lack, `Value` where they are no shortest pattern.
     #[tactic(auto, unfolding(mu_model_wire::specs::Reading::pattern_at, mu_model_wire::specs::Reading::word_at, mu_model_wire::specs::Reading::octets_at))]
     pub fn pattern(&mut self) -> Result<u16, Refusal>
-        ensures reads { Reads result (pattern_at self.old) self.new }
+        ensures reads { Leaves result (pattern_at self.old) self.old self.new }
         ensures taken { OnOk result (length self.new.octets < length self.old.octets) }
     {
         let short = self.refuse(Why::Short);
@@ -305,8 +355,7 @@ impl<'a> Cursor<'a> {
         let Some(number) = pattern_number(&self.left[..count as usize]) else {
             return Err(wrong);
         };
-        self.left = &self.left[count as usize..];
-        self.at += count;
+        self.skip(count);
         Ok(number)
     }
 
@@ -315,5 +364,13 @@ impl<'a> Cursor<'a> {
         ensures { result ≡ record { at = self.now.at; why = why } }
     {
         Refusal { at: self.at, why }
+    }
+
+    fn skip(&mut self, count: u16)
+        requires { count ≤ length self.old.octets }
+        ensures { self.new ≡ after count self.old }
+    {
+        self.left = &self.left[count as usize..];
+        self.at += count;
     }
 }

@@ -2,8 +2,12 @@
 #![tactic(auto)]
 
 mod cursor;
+mod packet;
 mod put;
+#[cfg(test)]
+mod tests;
 
 pub use cursor::Cursor;
 pub use mu_model_wire::{Refusal, Why};
-pub use put::{Payload, put_octets, put_pattern, put_u8, put_u16, put_u32, put_u40, put_u64};
+pub use packet::{Outbox, Packet, Payload};
+pub use put::{put_octets, put_pattern, put_u8, put_u16, put_u32, put_u40, put_u64};

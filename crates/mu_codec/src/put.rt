@@ -3,11 +3,9 @@ ghost use Rattle.byteorder.specs.Endian.{little_bytes};
 ghost use Rattle.mu_model_wire.specs.Patterns.{pattern_spelling};
 ghost use Rattle.arrayvec.specs.ArrayVec.{array_vec_len};
 
-use arrayvec::ArrayVec;
+use crate::packet::Payload;
 
-/// The octets of a message.
-pub type Payload = ArrayVec<u8, 380>;
-
+/// Appends a number of one octet. There is room.
 pub fn put_u8(out: &mut Payload, value: u8)
     requires { array_vec_len out.old + 1 ≤ 380 }
     ensures items { out.new.items ≡ out.old.items ++ little_bytes 1 value }
@@ -16,6 +14,7 @@ pub fn put_u8(out: &mut Payload, value: u8)
     out.push(value);
 }
 
+/// Appends a number of two octets, the lowest first. There is room.
 pub fn put_u16(out: &mut Payload, value: u16)
     requires { array_vec_len out.old + 2 ≤ 380 }
     ensures items { out.new.items ≡ out.old.items ++ little_bytes 2 value }
@@ -24,6 +23,7 @@ pub fn put_u16(out: &mut Payload, value: u16)
     put_octets(out, &value.to_le_bytes());
 }
 
+/// Appends a number of four octets, the lowest first. There is room.
 pub fn put_u32(out: &mut Payload, value: u32)
     requires { array_vec_len out.old + 4 ≤ 380 }
     ensures items { out.new.items ≡ out.old.items ++ little_bytes 4 value }
@@ -32,6 +32,7 @@ pub fn put_u32(out: &mut Payload, value: u32)
     put_octets(out, &value.to_le_bytes());
 }
 
+/// Appends a number of eight octets, the lowest first. There is room.
 pub fn put_u64(out: &mut Payload, value: u64)
     requires { array_vec_len out.old + 8 ≤ 380 }
     ensures items { out.new.items ≡ out.old.items ++ little_bytes 8 value }
@@ -40,6 +41,7 @@ pub fn put_u64(out: &mut Payload, value: u64)
     put_octets(out, &value.to_le_bytes());
 }
 
+/// Appends octets. There is room.
 pub fn put_octets(out: &mut Payload, octets: &[u8])
     requires { array_vec_len out.old + length octets.now ≤ 380 }
     ensures items { out.new.items ≡ out.old.items ++ octets.now }
@@ -50,7 +52,7 @@ pub fn put_octets(out: &mut Payload, octets: &[u8])
     }
 }
 
-/// A number as its shortest pattern.
+/// Appends a number as its shortest pattern. There is room.
 pub fn put_pattern(out: &mut Payload, value: u16)
     requires { array_vec_len out.old + length (pattern_spelling value) ≤ 380 }
     ensures items { out.new.items ≡ out.old.items ++ pattern_spelling value }
@@ -72,6 +74,7 @@ pub fn put_pattern(out: &mut Payload, value: u16)
     }
 }
 
+/// Appends the five lowest octets of a number, the lowest first. There is room.
 pub fn put_u40(out: &mut Payload, value: u64)
     requires { array_vec_len out.old + 5 ≤ 380 }
     ensures items { out.new.items ≡ out.old.items ++ little_bytes 5 value }

@@ -1,8 +1,8 @@
 -- Pairs of octets that are complements, bit by bit.
-use Rattle.std.proofs.Common.{◌≡◌, ◌⊎◌, inl, inr, ⊎_elim, ℕ, zero, suc, ◌+◌, ◌-◌, ◌<◌, ◌≤◌, ◌^◌, min, refl, sym, ◌∙◌, ap, subst, arith, bit_and, w8}
-use Rattle.std.specs.Int.{bit_at, bit_not}
+use Rattle.std.proofs.Common.{◌≡◌, ◌⊎◌, inl, inr, ⊎_elim, ℕ, zero, suc, ◌+◌, ◌-◌, ◌<◌, ◌≤◌, min, sym, ◌∙◌, ap, subst, arith, bit_and, w8}
+use Rattle.std.specs.Int.{bit_at}
 use Rattle.std.proofs.lemmas.Nat.{and_le_r}
-use Rattle.std.proofs.lemmas.Nat.Bits.{bit_at_and, bit_at-lt, bit_at_above, bit_at_ones, bit_at_ones_above, bit_at_not, same_from_bits, same_from_bits_below}
+use Rattle.std.proofs.lemmas.Nat.Bits.{bit_at_and, bit_at-lt, bit_at_above, bit_at_ones, bit_at_not, same_from_bits, same_from_bits_below}
 use Rattle.std.proofs.lemmas.Bool.{cases_eq}
 use Rattle.mu_model_flash.specs.Bits.{IsMixOf}
 

@@ -1,10 +1,10 @@
 -- Runs one after the other.
-use Rattle.std.proofs.Common.{◌≡◌, ◌⊎◌, inl, inr, ⊎_elim, ℕ, zero, suc, ◌+◌, ◌-◌, ◌^◌, ◌<◌, ◌≤◌, min, Bool, true, false, IsTrue, Option, Some, None, List, [], ◌∷◌, ◌++◌, length, refl, sym, ◌∙◌, ap, subst, arith, length-append}
+use Rattle.std.proofs.Common.{◌≡◌, inl, inr, ⊎_elim, ℕ, zero, suc, ◌+◌, ◌-◌, ◌<◌, ◌≤◌, Bool, false, IsTrue, Option, Some, None, List, [], ◌∷◌, ◌++◌, length, refl, sym, ◌∙◌, ap, subst, arith, length-append}
 use Rattle.mu_model_flash.specs.declared.Pattern.{Pattern}
 use Rattle.mu_model_flash.specs.declared.Pattern.TheVariants.{Old, New, Made}
 use Rattle.mu_model_flash.specs.declared.Armed.{Armed}
-use Rattle.mu_model_flash.specs.Flash.{Seen, ticks, fallen, IsBefore, Rose, IsSound}
-use Rattle.mu_model_flash.specs.Run.{Reading, exact, either, state_at, last_of, Passing, InPart, ByPattern, Keeps, Leaves, Ran, WentOff, Broke}
+use Rattle.mu_model_flash.specs.Flash.{Seen, ticks, fallen, IsBefore, IsSound}
+use Rattle.mu_model_flash.specs.Run.{Reading, state_at, last_of, Passing, InPart, ByPattern, Keeps, Leaves, Ran, WentOff, Broke}
 
 module _ {S : Type 0} (R : Reading S) where
   pub last_append : (s : S) (xs ys : List S) → last_of s (xs ++ ys) ≡ last_of (last_of s xs) ys

@@ -1,10 +1,9 @@
 -- The same run, read as other states.
-use Rattle.std.proofs.Common.{◌≡◌, ◌⊎◌, inl, inr, ⊎_elim, ℕ, zero, suc, ◌+◌, ◌-◌, ◌<◌, ◌≤◌, Bool, true, false, IsTrue, Option, Some, None, Result, Ok, Err, IsErr, List, [], ◌∷◌, ◌++◌, length, refl, sym, ◌∙◌, ap, subst, arith}
+use Rattle.std.proofs.Common.{◌≡◌, inl, inr, ⊎_elim, ℕ, zero, suc, ◌-◌, false, IsTrue, None, Result, Ok, Err, IsErr, List, [], ◌∷◌, ◌++◌, length, refl, sym, ◌∙◌, ap, subst, arith}
 use Rattle.mu_model_flash.specs.declared.Pattern.{Pattern}
 use Rattle.mu_model_flash.specs.declared.Pattern.TheVariants.{Old, New, Made}
-use Rattle.mu_model_flash.specs.declared.Armed.{Armed}
 use Rattle.mu_model_flash.specs.Flash.{Seen, fallen, IsBefore}
-use Rattle.mu_model_flash.specs.Run.{Reading, exact, either, state_at, last_of, Passing, InPart, ByPattern, Ran, WentOff, Broke, Runs, Goes}
+use Rattle.mu_model_flash.specs.Run.{Reading, exact, either, state_at, last_of, Passing, InPart, ByPattern, Ran, Broke, Runs, Goes}
 use Rattle.mu_model_flash.proofs.Compose.{leaves_more, last_append, then_ran, then_broke, broke_more}
 
 -- each state of the one run is a state of the other, and so is what may stand between two

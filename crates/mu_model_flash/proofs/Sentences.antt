@@ -1,10 +1,8 @@
 -- What is asked of a run, in the words of the promises.
-use Rattle.std.proofs.Common.{◌≡◌, ◌⊎◌, inl, inr, ⊎_elim, ℕ, zero, suc, ◌+◌, ◌-◌, ◌^◌, ◌<◌, ◌≤◌, Bool, true, false, IsTrue, Option, Some, None, List, [], ◌∷◌, length, refl, sym, ◌∙◌, ap, subst, arith}
-use Rattle.mu_model_flash.specs.declared.Pattern.{Pattern}
-use Rattle.mu_model_flash.specs.declared.Pattern.TheVariants.{Old, New, Made}
+use Rattle.std.proofs.Common.{◌≡◌, ◌⊎◌, inl, inr, ⊎_elim, ℕ, zero, suc, ◌+◌, ◌-◌, ◌^◌, ◌<◌, ◌≤◌, true, false, IsTrue, Option, Some, List, [], ◌∷◌, length, sym, ◌∙◌, ap, subst, arith}
 use Rattle.mu_model_flash.specs.declared.Armed.{Armed}
 use Rattle.mu_model_flash.specs.Flash.{Seen, ticks, fallen, IsBefore}
-use Rattle.mu_model_flash.specs.Run.{Reading, either, state_at, last_of, Passing, InPart, ByPattern, Ran, WentOff, Broke}
+use Rattle.mu_model_flash.specs.Run.{either, state_at, Passing, InPart, ByPattern, Ran, Broke}
 
 -- the clock grew by so many, or stands at its last value
 abbrev pub GrewBy : ℕ → ℕ → ℕ → Type 0

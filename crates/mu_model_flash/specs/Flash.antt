@@ -1,6 +1,5 @@
 -- All that a flash means, as plain values.
 use Rattle.std.specs.Prelude.{◌≡◌, ℕ, ◌+◌, ◌-◌, ◌*◌, ◌^◌, ◌<◌, ◌≤◌, ◌↔◌, min, Bool, true, false, IsTrue, Option, Some, None, IfSome, List, length}
-use Rattle.mu_model_flash.specs.declared.Pattern.{Pattern}
 use Rattle.mu_model_flash.specs.declared.Armed.{Armed}
 
 pub record Seen : Type 1 where
@@ -31,10 +30,6 @@ fallen (Some a) n = Some (record { number = a.number - n; pattern = a.pattern })
 -- so many operations can begin before the armed one
 abbrev pub IsBefore : ℕ → Option Armed → Type 0
 IsBefore n armed = IfSome armed (λ a. n < a.number)
-
--- the count has risen, or stands at its last value
-abbrev pub Rose : ℕ → ℕ → Type 0
-Rose old new = min (old + 1) (2 ^ 64 - 1) ≤ new
 
 -- what holds of every flash at every moment
 pub record IsSound (f : Seen) : Type 0 where

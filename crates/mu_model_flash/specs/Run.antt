@@ -1,10 +1,11 @@
 -- A run: operations begun one after the other, the states that stand after each, and what a cut may have left.
-use Rattle.std.specs.Prelude.{◌≡◌, ◌⊎◌, ℕ, zero, suc, ◌-◌, ◌<◌, ◌≤◌, Bool, true, false, IsTrue, Option, Some, None, List, [], ◌∷◌, length, Result, MatchResult}
+use Rattle.std.specs.Prelude.{◌≡◌, ◌⊎◌, ℕ, zero, suc, ◌-◌, ◌≤◌, true, false, IsTrue, Some, None, List, [], ◌∷◌, length, Result, MatchResult}
 use Rattle.mu_model_flash.specs.declared.Pattern.{Pattern}
 use Rattle.mu_model_flash.specs.declared.Pattern.TheVariants.{Old, New, Made}
 use Rattle.mu_model_flash.specs.Bits.{Between}
 use Rattle.mu_model_flash.specs.declared.Armed.{Armed}
-use Rattle.mu_model_flash.specs.Flash.{Seen, ticks, fallen, IsBefore, Rose}
+use Rattle.mu_model_flash.specs.Cause.{Rose}
+use Rattle.mu_model_flash.specs.Flash.{Seen, ticks, fallen, IsBefore}
 
 -- how octets are read as states: which stand for a state, and which an operation from one to the next may leave in part
 pub record Reading (S : Type 0) : Type 1 where

@@ -1,14 +1,14 @@
 -- A word, its parts and a number pattern are read back as they were spelled.
-use Rattle.std.proofs.Common.{◌≡◌, ℕ, zero, suc, ◌-◌, ◌+◌, ◌*◌, ◌/◌, ◌%◌, ◌^◌, ◌≤◌, ◌<◌, Bool, true, false, ltb, leb, eqb, List, [], ◌∷◌, ◌++◌, length, take, drop, Result, Ok, Err, refl, sym, ap, ◌∙◌, append_assoc, arith, inl, inr, length-append, ◌&&◌}
-use Rattle.std.proofs.lemmas.Bool.{ltb-true, ltb-false, lt-ltb, le-ltb, le-leb, leb-true, and_from, and_parts, and_right, lt-leb, cases_lt}
+use Rattle.std.proofs.Common.{◌≡◌, ℕ, ◌-◌, ◌+◌, ◌*◌, ◌/◌, ◌%◌, ◌^◌, ◌≤◌, ◌<◌, true, false, ltb, leb, List, [], ◌∷◌, ◌++◌, length, take, Ok, refl, sym, ap, ◌∙◌, arith, inl, inr, length-append}
+use Rattle.std.proofs.lemmas.Bool.{ltb-true, lt-ltb, le-ltb, le-leb, and_from, and_parts, and_right, lt-leb, cases_lt}
 use Rattle.std.proofs.lemmas.List.{take_at, drop_at}
 use Rattle.std.proofs.Math.Nat.{add-mul-div_left, add-mul-mod_self_left, mod-eq_of_lt, div-eq_of_lt, mul-le-mul_left, mul-div_right}
 use lib.Pow.{pow-add, pow_pos}
-use Rattle.byteorder.specs.Endian.{little_bytes, little_number}
+use Rattle.byteorder.specs.Endian.{little_bytes}
 use Rattle.byteorder.specs.Numbers.{little_number-reads_back, length-bytes_low_first}
 use Rattle.mu_model_wire.specs.Patterns.{within, pattern_spelling}
 use Rattle.mu_model_wire.specs.Fields.{Part, part, rfu, Shown, number, octets as shown_octets}
-use Rattle.mu_model_wire.specs.Reading.{Left, after, word_at, octets_at, pattern_at, parts_in, parts_of}
+use Rattle.mu_model_wire.specs.Reading.{Left, word_at, octets_at, pattern_at, parts_in, parts_of}
 use Rattle.mu_model_wire.specs.Spelling.{joined, part_count, PartsFit}
 use Rattle.mu_model_wire.specs.Sound.{bits_of, parts_hold}
 
@@ -33,10 +33,18 @@ octets_again at os rest =
 
 -- ---- parts
 
+abbrev first_value : List Shown → ℕ
+first_value [] = 0
+first_value (number n v ∷ shown) = v
+first_value (shown_octets n os ∷ shown) = 0
+
 pub record PartsAgain (ps : List Part) (shown : List Shown) : Type 0 where
   pub below : joined ps shown < 2 ^ bits_of ps
   pub fits : parts_in ps (joined ps shown) ≡ true
   pub again : parts_of ps (joined ps shown) ≡ take (part_count ps) shown
+
+pub first_number : (m n u v : ℕ) (xs ys : List Shown) → number m u ∷ xs ≡ number n v ∷ ys → u ≡ v
+first_number m n u v xs ys same = ap first_value same
 
 -- so many low bits under what is above them
 above : (w b low high : ℕ) → low < 2 ^ w → high < 2 ^ b → low + 2 ^ w * high < 2 ^ (w + b)

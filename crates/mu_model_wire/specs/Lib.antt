@@ -4,4 +4,10 @@ pub mod Reading
 pub mod Spelling
 pub mod Sound
 pub mod Names
+pub mod Blob
+pub mod Update
+pub mod Distribution
 pub mod Table
+pub mod Packet
+pub mod Spells
+pub mod Laws

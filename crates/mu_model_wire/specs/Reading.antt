@@ -1,11 +1,11 @@
 -- What octets spell by a row, or the first place where they don't.
-use Rattle.std.specs.Prelude.{◌≡◌, ℕ, zero, suc, ◌+◌, ◌-◌, ◌*◌, ◌/◌, ◌%◌, ◌^◌, Bool, true, false, List, [], ◌∷◌, ◌++◌, length, take, drop, slice_index, Option, Some, None, Result, Ok, Err, nat_lt, nat_le, ◌==◌, ◌&&◌, ◌||◌, if◌then◌else◌}
+use Rattle.std.specs.Prelude.{◌≡◌, ℕ, zero, suc, ◌+◌, ◌*◌, ◌/◌, ◌%◌, ◌^◌, Bool, true, false, List, [], ◌∷◌, ◌++◌, length, take, drop, slice_index, Option, Some, None, Result, Ok, Err, nat_lt, ◌==◌, ◌&&◌, ◌||◌, if◌then◌else◌}
 use Rattle.byteorder.specs.Endian.{little_number}
 use Rattle.mu_model_wire.specs.declared.Refusal.{Refusal}
 use Rattle.mu_model_wire.specs.declared.Why.{Why}
 use Rattle.mu_model_wire.specs.declared.Why.TheVariants.{Opcode, Short, Value, Long}
 use Rattle.mu_model_wire.specs.Patterns.{within, pattern_length, pattern_number}
-use Rattle.mu_model_wire.specs.Fields.{Part, part, rfu, Field, num, split, counted, whole, pattern, Fields, end, rest, repeated, ◌▹◌, when, where_left, Row, Shown, number, octets, Message}
+use Rattle.mu_model_wire.specs.Fields.{Part, part, rfu, Field, word, num, zero_or, split, counted, whole, pattern, Fields, end, rest, repeated, ◌▹◌, when, where_left, Row, Shown, number, octets, Message}
 
 -- the octets that are left, and the place of the first of them
 pub record Left : Type 0 where
@@ -84,6 +84,12 @@ number_at k least most left = do
   w ← word_at k left
   if within least most w.0 then Ok w else refuse left.at Value
 
+-- a number that is 0 or in its range
+abbrev pub zero_or_number_at : ℕ → ℕ → ℕ → Left → Result (ℕ × Left) Refusal
+zero_or_number_at k least most left = do
+  w ← word_at k left
+  if (w.0 == 0) || within least most w.0 then Ok w else refuse left.at Value
+
 -- octets behind their length
 abbrev pub counted_at : ℕ → ℕ → Left → Result (List ℕ × Left) Refusal
 counted_at least most left = do
@@ -91,8 +97,14 @@ counted_at least most left = do
   octets_at w.0 w.1
 
 abbrev pub field_at : Field → Left → Result (List Shown × Left) Refusal
+field_at (word name k) left = do
+  w ← word_at k left
+  Ok (number name w.0 ∷ [], w.1)
 field_at (num name k least most) left = do
   w ← number_at k least most left
+  Ok (number name w.0 ∷ [], w.1)
+field_at (zero_or name k least most) left = do
+  w ← zero_or_number_at k least most left
   Ok (number name w.0 ∷ [], w.1)
 field_at (split k parts) left = do
   w ← word_at k left
@@ -151,7 +163,7 @@ fields_at end before left = nothing_left left
 fields_at (rest name least most) before left = do
   all ← rest_at least most left
   Ok (octets name all ∷ [], [])
-fields_at (repeated least fs) before left =
+fields_at (repeated name least fs) before left =
     if nat_lt (length left.octets) least then refuse left.at Short
     else (do
       es ← entries_at (length left.octets) fs left

@@ -1,7 +1,7 @@
 -- The one spelling of a message with its unused bits 0, and which messages have one.
-use Rattle.std.specs.Prelude.{◌≡◌, ℕ, zero, suc, ◌+◌, ◌-◌, ◌*◌, ◌/◌, ◌%◌, ◌^◌, ◌<◌, ◌≤◌, Bool, true, false, List, [], ◌∷◌, ◌++◌, length, take, drop, Option, Some, None, nat_lt, ◌==◌, if◌then◌else◌, MatchBool}
+use Rattle.std.specs.Prelude.{◌≡◌, ℕ, suc, ◌+◌, ◌*◌, ◌/◌, ◌%◌, ◌^◌, ◌<◌, ◌≤◌, Bool, false, List, [], ◌∷◌, ◌++◌, length, take, drop, Option, Some, None, nat_lt, ◌==◌, if◌then◌else◌, MatchBool, ◌⊎◌}
 use Rattle.byteorder.specs.Endian.{little_bytes}
-use Rattle.mu_model_wire.specs.Fields.{Part, part, rfu, Field, num, split, counted, whole, pattern, Fields, end, rest, repeated, ◌▹◌, when, where_left, Row, Shown, number, octets, Message}
+use Rattle.mu_model_wire.specs.Fields.{Part, part, rfu, Field, word, num, zero_or, split, counted, whole, pattern, Fields, end, rest, repeated, ◌▹◌, when, where_left, Row, Shown, number, octets, Message}
 use Rattle.mu_model_wire.specs.Patterns.{pattern_spelling}
 use Rattle.mu_model_wire.specs.Reading.{value_of, is_one_of, fields_of}
 
@@ -28,7 +28,9 @@ begins_with name [] = false
 
 -- a field is spelled from the first things of a list
 abbrev pub field_spelling : Field → List Shown → List ℕ
+field_spelling (word name k) (number n v ∷ shown) = little_bytes k v
 field_spelling (num name k least most) (number n v ∷ shown) = little_bytes k v
+field_spelling (zero_or name k least most) (number n v ∷ shown) = little_bytes k v
 field_spelling (split k ps) shown = little_bytes k (joined ps shown)
 field_spelling (counted name least most) (octets n os ∷ shown) = little_bytes 1 (length os) ++ os
 field_spelling (whole name size) (octets n os ∷ shown) = os
@@ -50,7 +52,7 @@ rest_spelling _ = []
 abbrev pub fields_spelling : Fields → List Shown → List Shown → List (List Shown) → List ℕ
 fields_spelling end before shown entries = []
 fields_spelling (rest name least most) before shown entries = rest_spelling shown
-fields_spelling (repeated least fs) before shown entries = entries_spelling fs entries
+fields_spelling (repeated name least fs) before shown entries = entries_spelling fs entries
 fields_spelling (f ▹ fs) before shown entries =
     field_spelling f shown ++ fields_spelling fs (take (shown_count f) shown ++ before) (drop (shown_count f) shown) entries
 fields_spelling (when name values fs gs) before shown entries =
@@ -78,7 +80,9 @@ PartsFit (part name w least most ∷ ps) (number n v ∷ shown) = (n ≡ name) �
 PartsFit (part name w least most ∷ ps) shown = ⊥
 
 abbrev pub FieldFits : Field → List Shown → Type 0
+FieldFits (word name k) (number n v ∷ shown) = (n ≡ name) × (v < 256 ^ k)
 FieldFits (num name k least most) (number n v ∷ shown) = (n ≡ name) × (least ≤ v) × (v ≤ most)
+FieldFits (zero_or name k least most) (number n v ∷ shown) = (n ≡ name) × ((v ≡ 0) ⊎ ((least ≤ v) × (v ≤ most)))
 FieldFits (split k ps) shown = PartsFit ps shown
 FieldFits (counted name least most) (octets n os ∷ shown) = (n ≡ name) × (least ≤ length os) × (length os ≤ most)
 FieldFits (whole name size) (octets n os ∷ shown) = (n ≡ name) × (length os ≡ size)
@@ -100,7 +104,7 @@ RestFits name least most _ = ⊥
 abbrev pub FieldsFit : Fields → List Shown → List Shown → List (List Shown) → Type 0
 FieldsFit end before shown entries = (shown ≡ []) × (entries ≡ [])
 FieldsFit (rest name least most) before shown entries = RestFits name least most shown × (entries ≡ [])
-FieldsFit (repeated least fs) before shown entries = (shown ≡ []) × (least ≤ length (entries_spelling fs entries)) × EntriesFit fs entries
+FieldsFit (repeated name least fs) before shown entries = (shown ≡ []) × (least ≤ length (entries_spelling fs entries)) × EntriesFit fs entries
 FieldsFit (f ▹ fs) before shown entries =
     FieldFits f shown × FieldsFit fs (take (shown_count f) shown ++ before) (drop (shown_count f) shown) entries
 FieldsFit (when name values fs gs) before shown entries =

@@ -1,0 +1,27 @@
+//! What holds of the grammar and of every table like it: functions that do nothing, whose contracts are laws.
+ghost use Rattle.mu_model_wire.specs.Laws.{GrammarHolds, ReadsWhatIsSpelled, CanonicalSpells, CanonicalIsRead, IsOneOrTheOther};
+
+/// The grammar's rows can each be read back, and no two have one opcode.
+pub fn grammar_holds()
+    ensures { GrammarHolds }
+{}
+
+/// Octets are read as a message exactly where they spell it, whatever their unused bits are.
+pub fn reads_what_is_spelled()
+    ensures { ReadsWhatIsSpelled }
+{}
+
+/// The canonical octets of a message spell it.
+pub fn canonical_spells()
+    ensures { CanonicalSpells }
+{}
+
+/// The canonical octets of a message are read as it.
+pub fn canonical_is_read()
+    ensures { CanonicalIsRead }
+{}
+
+/// All octets are exactly one message or exactly one refusal.
+pub fn is_one_or_the_other()
+    ensures { IsOneOrTheOther }
+{}
