@@ -4,3 +4,5 @@ pub mod Event
 pub mod Lines
 pub mod Limits
 pub mod Texts
+pub mod Ranges
+pub mod Laws

@@ -1,6 +1,12 @@
 //! What a script is: its lines, what each of them says, and every text that a script's run writes.
 #![tactic(auto)]
 
+mod laws;
+
+pub use laws::{
+    event_is_in_range, number_has_one_text, pieces_are_the_octets, printed_address_is_read,
+    printed_octets_are_read,
+};
 use thiserror::Error;
 
 /// Why a line by itself is no line of a script (this profile).

@@ -10,3 +10,6 @@ pub use events::{Content, Event};
 pub use mu_codec::Payload;
 pub use mu_model_script::{LineFault, LineWhy};
 pub use reading::read_line;
+
+#[cfg(test)]
+mod tests;

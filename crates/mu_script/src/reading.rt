@@ -1,6 +1,7 @@
-ghost use Rattle.std.specs.Prelude.{◌≡◌, Some, None};
+ghost use Rattle.std.specs.Prelude.{◌≡◌, IfOk, IfSome};
 ghost use Rattle.std.specs.Option.{option_map};
 ghost use Rattle.mu_model_script.specs.Lines.{row_of, line_rows, node_row, say_row, deliver_row, active_row, event_by, line_event};
+ghost use Rattle.mu_model_script.specs.Ranges.{IsInRange};
 ghost use Rattle.mu_script.specs.Cursor.{Gives};
 ghost use Rattle.mu_script.specs.View.{event};
 ghost use Rattle.mu_script.specs.Words.{row};
@@ -93,7 +94,8 @@ fn event_by_word(word: Word, tokens: Tokens) -> Result<Event, LineFault>
 /// first place that shows it, a line that is longer than 4,096 octets, one that isn't of a form of the script's lines,
 /// and a number that is out of its range.
 pub fn read_line(line: &[u8]) -> Result<Option<Event>, LineFault>
-    ensures { Gives (λ e. option_map event e) result (line_event line.now) }
+    ensures reads { Gives (λ e. option_map event e) result (line_event line.now) }
+    ensures in_range { IfOk result (λ read. IfSome read (λ e. IsInRange (event e))) }
 {
     if line.len() > 4096 {
         return Err(LineFault {

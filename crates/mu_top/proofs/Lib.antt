@@ -1,3 +1,4 @@
 pub mod Told
 pub mod Requests
 pub mod Events
+pub mod WordLists

@@ -6,4 +6,7 @@ mod lines;
 mod member;
 mod node;
 mod reader;
+mod words;
 mod world;
+
+pub use words::{Command, WordList, read_words};
