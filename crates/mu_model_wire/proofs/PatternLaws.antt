@@ -1,8 +1,8 @@
 -- Number patterns, by their rule and as the grammar reads and spells them.
-use Rattle.std.proofs.Common.{◌≡◌, ℕ, ◌-◌, ◌+◌, ◌*◌, ◌/◌, ◌%◌, ◌^◌, ◌≤◌, ◌<◌, ◌↔◌, Bool, true, false, ltb, leb, eqb, cond, get_or, List, [], ◌∷◌, ◌++◌, length, take, drop, Option, Some, None, refl, sym, ap, subst, ◌∙◌, arith, ◌&&◌, ◌⊎◌, inl, inr}
-use Rattle.std.proofs.lemmas.Bool.{ltb-true, ltb-false, lt-ltb, le-ltb, le-leb, leb-true, leb-false, and_from, and_parts, cases_lt}
+use Rattle.std.proofs.Common.{◌≡◌, ℕ, ◌-◌, ◌+◌, ◌*◌, ◌/◌, ◌%◌, ◌^◌, ◌≤◌, ◌<◌, Bool, true, false, leb, cond, get_or, List, [], ◌∷◌, length, Some, None, refl, sym, subst, arith, ◌&&◌, inl, inr}
+use Rattle.std.proofs.lemmas.Bool.{leb-true, and_parts, cases_lt}
 use Rattle.std.proofs.lemmas.Bool.Decides.{nat_tests}
-use Rattle.mu_model_wire.specs.Patterns.{pattern_length, pattern_number, follows, within, pattern_spelling, IsPattern, ShortestPatternIsThePattern, PatternIsRead}
+use Rattle.mu_model_wire.specs.Patterns.{pattern_length, pattern_number, within, pattern_spelling, IsPattern, ShortestPatternIsThePattern, PatternIsRead}
 
 one_from : (a n : ℕ) → n < 2 ^ 7 → a ≡ n → a ∷ [] ≡ pattern_spelling n
 one_from a n h e = grind (arith, nat_tests)
@@ -19,11 +19,11 @@ along n octets e h = let P : List ℕ → Type 0 = λ xs. IsPattern xs n in subs
 is_shortest : (n : ℕ) → n < 2 ^ 16 → IsPattern (pattern_spelling n) n
 is_shortest n h =
     elim (cases_lt n (2 ^ 7)) [
-      inl one ↦ along n (n ∷ []) (one_from n n one refl) (one, refl)
-    | inr more ↦ elim (cases_lt n (2 ^ 11)) [
-        inl two ↦ along n ((0xC0 + n / 64) ∷ (0x80 + n % 64) ∷ []) (two_from (0xC0 + n / 64) (0x80 + n % 64) n more two refl refl) (more, two, refl, refl)
-      | inr three ↦ along n ((0xE0 + n / 4096) ∷ (0x80 + n / 64 % 64) ∷ (0x80 + n % 64) ∷ [])
-          (three_from (0xE0 + n / 4096) (0x80 + n / 64 % 64) (0x80 + n % 64) n three refl refl refl) (three, h, refl, refl, refl)
+      | inl one ↦ along n (n ∷ []) (one_from n n one refl) (one, refl)
+      | inr more ↦ elim (cases_lt n (2 ^ 11)) [
+        | inl two ↦ along n ((0xC0 + n / 64) ∷ (0x80 + n % 64) ∷ []) (two_from (0xC0 + n / 64) (0x80 + n % 64) n more two refl refl) (more, two, refl, refl)
+        | inr three ↦ along n ((0xE0 + n / 4096) ∷ (0x80 + n / 64 % 64) ∷ (0x80 + n % 64) ∷ [])
+            (three_from (0xE0 + n / 4096) (0x80 + n / 64 % 64) (0x80 + n % 64) n three refl refl refl) (three, h, refl, refl, refl)
       ]
     ]
 

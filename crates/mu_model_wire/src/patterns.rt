@@ -6,5 +6,4 @@ ghost use Rattle.mu_model_wire.specs.Patterns.{ShortestPatternIsThePattern, Patt
 pub fn number_patterns()
     ensures shortest { ShortestPatternIsThePattern }
     ensures read { PatternIsRead }
-{
-}
+{}
