@@ -4,19 +4,26 @@
 mod bytes_sink;
 mod bytes_source;
 mod calls;
+mod cells;
 mod clock;
+mod cut;
+mod faulty;
 mod flash;
 mod link;
 mod memory;
+mod ram;
 mod sink;
 mod source;
 
 pub use bytes_sink::BytesSink;
 pub use bytes_source::BytesSource;
 pub use clock::Clock;
-pub use flash::Flash;
+pub use cut::CutFlash;
+pub use faulty::FaultyFlash;
+pub use flash::{Flash, Plug};
 pub use link::{Incoming, Link};
-pub use mu_model_flash::Failed;
+pub use mu_model_flash::{Failed, Pattern};
+pub use ram::RamFlash;
 pub use sink::Sink;
 pub use source::Source;
 
