@@ -20,11 +20,14 @@ without_short_last [] = []
 without_short_last (piece ∷ []) = if nat_lt most_in_line (length piece) then piece ∷ [] else []
 without_short_last (piece ∷ next ∷ pieces) = piece ∷ without_short_last (next ∷ pieces)
 
--- the lines that are wholly within the limit of octets: a line that is too long shows it within the limit too
+-- the lines that are wholly within so many octets: a line that is too long shows it within them too
+abbrev pub lines_in : (octets : ℕ) → List ℕ → List (List ℕ)
+lines_in octets input =
+    if nat_le (length input) octets then lines_of input else without_short_last (pieces line_feed (take octets input))
+
+-- the lines that are wholly within the limit
 abbrev pub lines_within : List ℕ → List (List ℕ)
-lines_within input =
-    if nat_le (length input) most_octets then lines_of input
-    else without_short_last (pieces line_feed (take most_octets input))
+lines_within input = lines_in most_octets input
 
 -- the lines that are done one after the other, up to the first that is refused
 abbrev pub lines_done : List ℕ → List (List ℕ)
@@ -33,3 +36,12 @@ lines_done input = take most_lines (lines_within input)
 -- a limit is passed, behind those lines
 abbrev pub IsPast : List ℕ → Type 0
 IsPast input = (most_octets < length input) ⊎ (most_lines < length (lines_within input))
+
+-- the pieces but for the last: the lines that LF has ended
+abbrev pub without_last : List (List ℕ) → List (List ℕ)
+without_last [] = []
+without_last (piece ∷ []) = []
+without_last (piece ∷ next ∷ pieces) = piece ∷ without_last (next ∷ pieces)
+
+abbrev pub ended_lines : List ℕ → List (List ℕ)
+ended_lines octets = without_last (pieces line_feed octets)

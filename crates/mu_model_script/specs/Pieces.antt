@@ -1,5 +1,5 @@
 -- Octets cut at a separator: a script into lines, a line into tokens.
-use Rattle.std.specs.Prelude.{ℕ, ◌+◌, ◌==◌, List, [], ◌∷◌, length}
+use Rattle.std.specs.Prelude.{ℕ, ◌+◌, ◌==◌, List, [], ◌∷◌, length, if◌then◌else◌}
 use Rattle.std.specs.List.{slice_split}
 
 -- the pieces before, between and behind the separators: one more than there are separators
@@ -16,8 +16,7 @@ blank = 32
 -- the pieces but for a last one that is empty
 abbrev pub without_empty_last : List (List ℕ) → List (List ℕ)
 without_empty_last [] = []
-without_empty_last ([] ∷ []) = []
-without_empty_last ((octet ∷ octets) ∷ []) = (octet ∷ octets) ∷ []
+without_empty_last (piece ∷ []) = if length piece == 0 then [] else piece ∷ []
 without_empty_last (piece ∷ next ∷ pieces) = piece ∷ without_empty_last (next ∷ pieces)
 
 -- the lines of a script: each ends with LF, which the last one may lack

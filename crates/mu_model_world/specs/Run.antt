@@ -1,5 +1,5 @@
 -- Whole runs: one world after each line, each got from the last by a move, and the texts joined.
-use Rattle.std.specs.Prelude.{ℕ, ◌≡◌, List, [], ◌∷◌, ◌++◌}
+use Rattle.std.specs.Prelude.{ℕ, ◌≡◌, ◌+◌, List, [], ◌∷◌, ◌++◌, length}
 use Rattle.mu_model_world.specs.World.{World, new_world}
 use Rattle.mu_model_world.specs.Outcomes.{Moves}
 use Rattle.mu_model_world.specs.Judged.{Judged, Silent, Refused, Sound, judged}
@@ -24,3 +24,15 @@ Run w (line ∷ lines) text end =
 pub record Prints (lines : List (List ℕ)) (text : List ℕ) : Type 0 where
   pub end : World
   pub run : Run new_world lines text end
+
+-- The lines before one of them are done and print a text, and that line is refused: its number, counted from 1, the place
+-- in it, and the word for why.
+pub record Refuses (lines : List (List ℕ)) (text : List ℕ) (number place : ℕ) (word : List ℕ) : Type 0 where
+  pub before : List (List ℕ)
+  pub line : List ℕ
+  pub others : List (List ℕ)
+  pub cut : lines ≡ before ++ line ∷ others
+  pub end : World
+  pub run : Run new_world before text end
+  pub refused : judged end line ≡ Refused place word
+  pub numbered : number ≡ length before + 1

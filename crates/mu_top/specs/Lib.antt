@@ -2,3 +2,5 @@ pub mod Reading
 pub mod Grammar
 pub mod Moved
 pub mod Words
+pub mod Status
+pub mod Replay

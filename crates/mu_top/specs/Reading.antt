@@ -1,8 +1,10 @@
 -- What reading an input line by line comes to.
-use Rattle.std.specs.Prelude.{◌≡◌, ◌≢◌, ◌⊎◌, ℕ, ◌+◌, ◌<◌, ◌≤◌, Option, Some, None, IfSome, List, [], ◌∷◌, ◌++◌, length, Result, Ok, Err, Bool, true, false}
+use Rattle.std.specs.Prelude.{◌≡◌, ◌≢◌, ℕ, ◌+◌, ◌<◌, ◌≤◌, Option, Some, None, IfSome, List, [], ◌∷◌, ◌++◌, length, take, Result, Ok, Err}
 use Rattle.std.specs.List.{AllByRecursion}
 use Rattle.mu_model_script.specs.Limits.{most_octets, most_in_line}
 use Rattle.mu_model_script.specs.Pieces.{line_feed}
+use Rattle.mu_top.specs.declared.reader.Next.{Next}
+use Rattle.mu_top.specs.declared.reader.Next.TheVariants.{Line, Last, End}
 use Rattle.mu_top.specs.declared.reader.ReadStop.{ReadStop}
 use Rattle.mu_top.specs.declared.reader.ReadStop.TheVariants.{Source, TooLong, LongLine}
 
@@ -47,11 +49,11 @@ pub record Took (old new : Reader) (before after part : List ℕ) : Type 0 where
   pub given : new.given ≡ old.given + length part
   pub within : new.given ≤ most_octets
 
--- a whole line came, ended by LF or by the end of the input
-pub record GivesLine (old new : Reader) (before after : List ℕ) : Type 0 where
+-- a whole line came, with what ends it
+pub record GivesLine (old new : Reader) (before after octets : List ℕ) : Type 0 where
   pub part : IsPart new.line
   pub short : length new.line ≤ most_in_line
-  pub took : Took old new before after (new.line ++ line_feed ∷ []) ⊎ (Took old new before after new.line × (new.line ≢ []) × (to_come new after ≡ []))
+  pub took : Took old new before after octets
 
 -- the line that had begun came in part, and no whole line
 pub record Stopped (old new : Reader) (before after : List ℕ) : Type 0 where
@@ -60,9 +62,10 @@ pub record Stopped (old new : Reader) (before after : List ℕ) : Type 0 where
   pub took : Took old new before after new.line
 
 -- what the answer of a call for the next line says
-abbrev pub NextLine : Reader → Reader → List ℕ → List ℕ → Result Bool ReadStop → Type 0
-NextLine old new before after (Ok true) = GivesLine old new before after
-NextLine old new before after (Ok false) = (to_come old before ≡ []) × Took old new before after []
+abbrev pub NextLine : Reader → Reader → List ℕ → List ℕ → Result Next ReadStop → Type 0
+NextLine old new before after (Ok Line) = GivesLine old new before after (new.line ++ line_feed ∷ [])
+NextLine old new before after (Ok Last) = GivesLine old new before after new.line × (new.line ≢ []) × (to_come new after ≡ [])
+NextLine old new before after (Ok End) = (to_come old before ≡ []) × Took old new before after []
 NextLine old new before after (Err Source) = Stopped old new before after × (new.ahead ≡ [])
 NextLine old new before after (Err TooLong) = Stopped old new before after × (to_come new after ≢ []) × (new.given ≡ most_octets)
 NextLine old new before after (Err LongLine) =
@@ -71,3 +74,11 @@ NextLine old new before after (Err LongLine) =
 -- a fact about what was told before and what is told now, where it is told now
 abbrev pub WhereTold : Option (List ℕ) → Option (List ℕ) → (List ℕ → List ℕ → Type 0) → Type 0
 WhereTold old new P = IfSome new (λ after. (before : List ℕ) × (old ≡ Some before) × P before after)
+
+-- all of a piece was appended
+abbrev pub Wrote : Option (List ℕ) → Option (List ℕ) → List ℕ → Type 0
+Wrote old new bytes = WhereTold old new (λ before after. after ≡ before ++ bytes)
+
+-- a beginning of a piece was appended
+abbrev pub WroteSome : Option (List ℕ) → Option (List ℕ) → List ℕ → Type 0
+WroteSome old new bytes = WhereTold old new (λ before after. (count : ℕ) × (after ≡ before ++ take count bytes))

@@ -6,7 +6,10 @@ mod lines;
 mod member;
 mod node;
 mod reader;
+mod status;
 mod words;
 mod world;
+mod writing;
 
+pub use status::Status;
 pub use words::{Command, WordList, read_words};

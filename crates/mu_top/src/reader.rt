@@ -1,7 +1,7 @@
 // An input line by line.
-ghost use Rattle.std.specs.Prelude.{◌≡◌, ◌≢◌, ◌↔◌, ◌+◌, ◌≤◌, ◌<◌, ◌^◌, IsTrue, IsErrOf, IfOk, IfSome, OnOk, OnErr, [], ◌∷◌, ◌++◌, length};
+ghost use Rattle.std.specs.Prelude.{◌≡◌, ◌≢◌, ◌↔◌, ◌+◌, ◌≤◌, ◌<◌, ◌^◌, IsTrue, MatchBool, IsErrOf, IfOk, IfSome, OnOk, OnErr, [], ◌∷◌, ◌++◌, length};
 ghost use Rattle.mu_model_flash.specs.Cause.{HasCause, Rose};
-ghost use Rattle.mu_top.specs.Reading.{IsAtRest, NextOctet, NextLine, WhereTold};
+ghost use Rattle.mu_top.specs.Reading.{IsAtRest, to_come, NextOctet, NextLine, WhereTold};
 
 use arrayvec::ArrayVec;
 use mu_outside::{Failed, Source};
@@ -25,6 +25,17 @@ pub(crate) enum ReadStop {
     TooLong,
     /// The line has more octets than a line may have.
     LongLine,
+}
+
+/// What came next of an input.
+#[derive(Clone, Copy, Debug, PartialEq, Eq)]
+pub(crate) enum Next {
+    /// A line that LF ends.
+    Line,
+    /// The last line, which lacks its LF.
+    Last,
+    /// No line: the input is at its end.
+    End,
 }
 
 /// Reads an input in pieces, and gives its lines. It holds one line and a piece, and takes no memory.
@@ -150,8 +161,31 @@ impl LineReader {
         self.line.push(octet);
     }
 
-    /// Reads the next line, and answers whether there was one. A line ends with LF, which the last may lack.
-    pub(crate) fn next<S: Source>(&mut self, source: &mut S) -> Result<bool, ReadStop>
+    /// What comes at the end of the input.
+    fn last(&self) -> Next
+        ensures last { self.now.line ≢ [] → result ≡ Next.Last }
+        ensures end { self.now.line ≡ [] → result ≡ Next.End }
+    {
+        if self.line.is_empty() {
+            Next::End
+        } else {
+            Next::Last
+        }
+    }
+
+    /// Whether the source has another octet.
+    pub(crate) fn has_more<S: Source>(&mut self, source: &mut S) -> Result<bool, Failed>
+        ensures rest { WhereTold (S.left source.old) (S.left source.new) (λ before after. IsAtRest self.old self.new before after) }
+        ensures more { IfOk result (λ more. MatchBool more (0 < length self.new.ahead) (WhereTold (S.left source.old) (S.left source.new) (λ before after. to_come self.new after ≡ []))) }
+        ensures empty { OnErr result (self.new.ahead ≡ []) }
+        ensures cause { HasCause (S.faults source.old) (S.faults source.new) result }
+    {
+        self.fill(source)?;
+        Ok(self.has_next())
+    }
+
+    /// Reads the next line.
+    pub(crate) fn next<S: Source>(&mut self, source: &mut S) -> Result<Next, ReadStop>
         ensures next { WhereTold (S.left source.old) (S.left source.new) (λ before after. NextLine self.old self.new before after result) }
         ensures cause { IsErrOf result ReadStop.Source → Rose (S.faults source.old) (S.faults source.new) }
         ensures later { S.faults source.old ≤ S.faults source.new }
@@ -160,11 +194,11 @@ impl LineReader {
         loop {
             let octet = match self.octet(source) {
                 Ok(Some(octet)) => octet,
-                Ok(None) => return Ok(!self.line.is_empty()),
+                Ok(None) => return Ok(self.last()),
                 Err(stop) => return Err(stop),
             };
             if octet == b'\n' {
-                return Ok(true);
+                return Ok(Next::Line);
             }
             if self.is_full() {
                 return Err(ReadStop::LongLine);
