@@ -3,3 +3,4 @@ pub mod Requests
 pub mod Events
 pub mod WordLists
 pub mod Cuts
+pub mod Places

@@ -4,3 +4,4 @@ pub mod Moved
 pub mod Words
 pub mod Status
 pub mod Replay
+pub mod LineDone

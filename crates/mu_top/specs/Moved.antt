@@ -1,7 +1,7 @@
 -- What the world's code does with an event.
-use Rattle.std.specs.Prelude.{◌≡◌, ◌≤◌, ℕ, List, ◌++◌, Option, Some, None}
+use Rattle.std.specs.Prelude.{◌≡◌, ℕ, List, ◌++◌, Option, Some, None}
 use Rattle.mu_model_script.specs.declared.BadWhy.{BadWhy}
-use Rattle.mu_model_script.specs.Event.{Event, Node}
+use Rattle.mu_model_script.specs.Event.{Event}
 use Rattle.mu_model_world.specs.World.{World}
 use Rattle.mu_model_world.specs.Outcomes.{Moves}
 use Rattle.mu_model_world.specs.Judged.{objection}
@@ -25,8 +25,3 @@ pub record Refuses (old : World) (event : Event) (before after : List ℕ) (new 
 abbrev pub Fails : World → Event → List ℕ → List ℕ → World → WorldFault → Type 0
 Fails old event before after new Memory = Unit {0}
 Fails old event before after new (Bad token why) = Refuses old event before after new token why
-
--- the fields of an event that a bank's size is worked out from are in their ranges
-abbrev pub FitsLimits : Event → Type 0
-FitsLimits (Node address group pages version content) = pages ≤ 256
-FitsLimits _ = Unit {0}

@@ -2,6 +2,7 @@
 #![tactic(auto)]
 
 mod grammar;
+mod line;
 mod lines;
 mod member;
 mod node;

@@ -4,8 +4,9 @@ ghost use Rattle.std.specs.Option.{option_copied};
 ghost use Rattle.mu_codec.specs.View.{packet_of};
 ghost use Rattle.mu_model_script.specs.Event.{Node as NodeLine, Say as SayLine, Deliver as DeliverLine, Active as ActiveLine};
 ghost use Rattle.mu_model_script.specs.Texts.{unread_text};
+ghost use Rattle.mu_model_script.specs.Ranges.{IsInRange};
 ghost use Rattle.mu_script.specs.View.{event, content};
-ghost use Rattle.mu_top.specs.Moved.{Did, Fails, FitsLimits};
+ghost use Rattle.mu_top.specs.Moved.{Did, Fails};
 
 use crate::lines::Lines;
 use crate::member::{Member, hand};
@@ -204,7 +205,7 @@ impl World {
 
     /// Does one event, and prints what it prints. At want of memory it may be half done.
     pub(crate) fn line(&mut self, happening: &Event, lines: &mut Lines) -> Result<(), WorldFault>
-        requires { FitsLimits (event happening.now) }
+        requires { IsInRange (event happening.now) }
         ensures ok { OnOk result (Did self.old (event happening.now) lines.old lines.new self.new) }
         ensures err { IfErr result (Fails self.old (event happening.now) lines.old lines.new self.new) }
     {
