@@ -226,9 +226,11 @@ mod tests {
         let mut lines = Lines::new(rt.alloc());
         assert_eq!(rt; lines.bytes(), b"".as_slice());
         let mut payload = Payload::new();
-        for octet in [0x83, 0x08, 0x00, 0x01] {
-            payload.push(octet);
-        }
+        assert!(rt;
+            payload
+                .try_extend_from_slice(&[0x83, 0x08, 0x00, 0x01])
+                .is_ok()
+        );
         let packet = Packet {
             from: 1,
             to: 0xC0FE,
