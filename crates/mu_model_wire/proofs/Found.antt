@@ -1,5 +1,5 @@
 -- What is shown under a name is found again.
-use Rattle.std.proofs.Common.{◌≡◌, ℕ, Bool, true, false, eqb, cond, List, [], ◌∷◌, ◌++◌, Option, Some, None, refl, ap, ◌∙◌, map}
+use Rattle.std.proofs.Common.{◌≡◌, ℕ, Bool, true, false, eqb, cond, List, [], ◌∷◌, ◌++◌, Option, Some, None, refl, ap, map}
 use Rattle.std.proofs.lemmas.Bool.{eq-eqb}
 use Rattle.mu_model_wire.specs.Fields.{Shown, number, octets, perhaps}
 

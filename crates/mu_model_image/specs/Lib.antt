@@ -1,0 +1,4 @@
+pub mod Meta
+pub mod Pieces
+pub mod Made
+pub mod Laws

@@ -1,0 +1,27 @@
+//! What names a set of missing blocks or chunks on the wire.
+
+ghost use Rattle.mu_model_wire.specs.Reports.{ListsAreRead, ListsHaveNoFault, ListFaultsAreOne, GrammarReadsLists, GrammarRefusesLists};
+
+use arrayvec::ArrayVec;
+
+/// A report of missing numbers (MshMBT: the formats of Block Status).
+#[derive(Debug, Drop, PartialEq, Eq)]
+pub enum Report {
+    /// Every number is missing.
+    All,
+    /// No number is missing.
+    Nothing,
+    /// The bit field of the missing numbers: number `i` is bit `i % 8` of octet `i / 8`.
+    Bits(ArrayVec<u8, 374>),
+    /// The missing numbers.
+    List(ArrayVec<u16, 374>),
+}
+
+/// Octets are one list of patterns or have one fault, as the grammar reads them.
+pub fn lists()
+    ensures one_list { ListsAreRead }
+    ensures no_fault { ListsHaveNoFault }
+    ensures one_fault { ListFaultsAreOne }
+    ensures read { GrammarReadsLists }
+    ensures refused { GrammarRefusesLists }
+{}

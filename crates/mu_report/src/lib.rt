@@ -1,0 +1,7 @@
+//! Sets of missing numbers, and the reports and lists that name them on the wire.
+#![tactic(auto)]
+
+mod list;
+
+pub use list::{ListFault, decode_list, encode_list};
+pub use mu_model_wire::reports::Report;
