@@ -1,9 +1,12 @@
 //! The messages of the Firmware Update model, read from a payload and written into one.
 #![tactic(auto)]
 
+pub mod laws;
 mod message;
 mod ranges;
 mod reading;
+#[cfg(test)]
+mod tests;
 mod writing;
 
 pub use message::{Entry, UpdMsg};
