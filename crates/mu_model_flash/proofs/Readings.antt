@@ -5,7 +5,7 @@ use Rattle.mu_model_flash.specs.declared.Pattern.TheVariants.{Old, New, Made}
 use Rattle.mu_model_flash.specs.declared.Armed.{Armed}
 use Rattle.mu_model_flash.specs.Flash.{Seen, fallen, IsBefore}
 use Rattle.mu_model_flash.specs.Run.{Reading, exact, either, state_at, last_of, Passing, InPart, ByPattern, Refines, Ran, Broke, Stopped, Halts, Runs, Goes}
-use Rattle.mu_model_flash.proofs.Compose.{leaves_more, last_append, then_ran, then_broke, then_halts, halts_more}
+use Rattle.mu_model_flash.proofs.Compose.{leaves_more, last_append, told_back, then_ran, then_broke, then_halts, halts_more}
 
 module _ {S T : Type 0} (R : Reading S) (Q : Reading T) where
   same_length : (s : S) (xs : List S) (t : T) (ys : List T) → Refines R Q s xs t ys → length xs ≡ length ys
@@ -170,3 +170,22 @@ module _ {S : Type 0} (A B : S → List ℕ → Type 0) (weak : (s : S) (c : Lis
   pub refines_weaker : (s : S) (xs : List S) → Refines (either A) (either B) s xs s xs
   refines_weaker s [] = weak s
   refines_weaker s (x ∷ xs) = (weak s, λ c t. ⊎_elim (λ l. inl (weak s c l)) (λ r. inr (weak x c r)) t, refines_weaker x xs)
+
+-- A run of octets, and then operations on what it left.
+module _ {T X : Type 0} (s : List ℕ) (xs : List (List ℕ)) (ops : List ℕ → List (List ℕ)) (as_many : (o p : List ℕ) → length (ops o) ≡ length (ops p)) (a b c : Seen) (result : Result T X) where
+  pub more_operations : Ran exact s xs a b → Runs exact b.octets (ops b.octets) b c result → Runs exact s (xs ++ ops (last_of s xs)) a c result
+  more_operations ran more =
+      then_runs exact s xs (ops (last_of s xs)) a b c result ran
+      (runs_as exact exact b.octets (ops b.octets) (last_of s xs) (ops (last_of s xs)) b c result (as_many b.octets (last_of s xs))
+      (λ told. subst (λ (o : List ℕ). Refines exact exact b.octets (ops b.octets) o (ops o)) (ran.ends (told_back a b ran.keeps told)) (refines_same exact b.octets (ops b.octets))) more)
+
+-- with one operation more
+module _ (s : List ℕ) (xs : List (List ℕ)) (op : List ℕ → List ℕ) (a b c : Seen) where
+  pub one_operation : {T X : Type 0} (result : Result T X) → Ran exact s xs a b → Runs exact b.octets (op b.octets ∷ []) b c result → Runs exact s (xs ++ op (last_of s xs) ∷ []) a c result
+  one_operation result ran more = more_operations s xs (λ o. op o ∷ []) (λ o p. refl) a b c result ran more
+
+  pub one_operation_ran : Ran exact s xs a b → Ran exact b.octets (op b.octets ∷ []) b c → Ran exact s (xs ++ op (last_of s xs) ∷ []) a c
+  one_operation_ran ran more = one_operation {T = ℕ} {X = ℕ} (Ok 0) ran more
+
+  pub one_operation_broke : Ran exact s xs a b → Broke exact b.octets (op b.octets ∷ []) b c → Broke exact s (xs ++ op (last_of s xs) ∷ []) a c
+  one_operation_broke ran more = one_operation {T = ℕ} {X = ℕ} (Err 0) ran more

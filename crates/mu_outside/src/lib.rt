@@ -28,4 +28,6 @@ pub use sink::Sink;
 pub use source::Source;
 
 #[cfg(test)]
+mod flash_tests;
+#[cfg(test)]
 mod stream_tests;
