@@ -63,8 +63,8 @@ all_pass p (suc n) e k h =
     let before = counted_le p n in
     let here = one_or_none (p n) in
     elim (cases_lt k n) [
-      inl less ↦ all_pass p n (omega arith) k less
-    | inr last ↦ (let same : n ≡ k = omega arith in ap p (sym same) ∙ was_one (p n) (omega arith))
+      | inl less ↦ all_pass p n (omega arith) k less
+      | inr last ↦ (let same : n ≡ k = omega arith in ap p (sym same) ∙ was_one (p n) (omega arith))
     ]
 
 none_pass : (p : ℕ → Bool) (n : ℕ) → counted p n ≡ 0 → (k : ℕ) → k < n → p k ≡ false
@@ -72,8 +72,8 @@ none_pass p zero e k h = absurd (omega arith)
 none_pass p (suc n) e k h =
     let more = counted_more p n in
     elim (cases_lt k n) [
-      inl less ↦ none_pass p n (omega arith) k less
-    | inr last ↦ (let same : n ≡ k = omega arith in ap p (sym same) ∙ was_none (p n) (omega arith))
+      | inl less ↦ none_pass p n (omega arith) k less
+      | inr last ↦ (let same : n ≡ k = omega arith in ap p (sym same) ∙ was_none (p n) (omega arith))
     ]
 
 -- a number is among those below n that pass exactly where it passes
@@ -84,11 +84,11 @@ contained p (suc n) k h pass =
     ap (λ (m : ℕ). filter p (range_with_len 0 m)) (sym (add-one n)) ∙ filter_more p n in
     let P : List ℕ → Type 0 = λ xs. Contains xs k in
     subst P (sym whole) (elim (cases_lt k n) [
-      inl less ↦ Contains-append_left (filter p (range_with_len 0 n)) (cond (p n) (n ∷ []) []) k (contained p n k less pass)
-    | inr last ↦ (
-      let same : k ≡ n = omega arith in
-      let one : cond (p n) (n ∷ []) [] ≡ k ∷ [] = ap (λ (b : Bool). cond b (n ∷ []) []) (ap p (sym same) ∙ pass) ∙ ap (λ (m : ℕ). m ∷ []) (sym same) in
-      subst P (ap (λ (xs : List ℕ). filter p (range_with_len 0 n) ++ xs) (sym one)) (Contains-push (filter p (range_with_len 0 n)) k))
+      | inl less ↦ Contains-append_left (filter p (range_with_len 0 n)) (cond (p n) (n ∷ []) []) k (contained p n k less pass)
+      | inr last ↦ (
+          let same : k ≡ n = omega arith in
+          let one : cond (p n) (n ∷ []) [] ≡ k ∷ [] = ap (λ (b : Bool). cond b (n ∷ []) []) (ap p (sym same) ∙ pass) ∙ ap (λ (m : ℕ). m ∷ []) (sym same) in
+          subst P (ap (λ (xs : List ℕ). filter p (range_with_len 0 n) ++ xs) (sym one)) (Contains-push (filter p (range_with_len 0 n)) k))
     ])
 
 passes : (p : ℕ → Bool) (n k : ℕ) → Contains (filter p (range_with_len 0 n)) k → (k < n) × (p k ≡ true)
@@ -98,15 +98,15 @@ passes p (suc n) k h =
     ap (λ (m : ℕ). filter p (range_with_len 0 m)) (sym (add-one n)) ∙ filter_more p n in
     let P : List ℕ → Type 0 = λ xs. Contains xs k in
     elim (cases_Bool (p n)) [
-      inl one ↦ (
-        let parts = subst P (whole ∙ ap (λ (b : Bool). filter p (range_with_len 0 n) ++ cond b (n ∷ []) []) one) h in
-        elim (Contains-push_cases (filter p (range_with_len 0 n)) n k parts) [
-          inl before ↦ (let g = passes p n k before in (omega (arith, g.0), g.1))
-        | inr same ↦ (omega (arith, same), ap p (sym same) ∙ one)
-        ])
-    | inr none ↦ (
-        let parts = subst P (whole ∙ ap (λ (b : Bool). filter p (range_with_len 0 n) ++ cond b (n ∷ []) []) none ∙ append-nil (filter p (range_with_len 0 n))) h in
-        let g = passes p n k parts in (omega (arith, g.0), g.1))
+      | inl one ↦ (
+          let parts = subst P (whole ∙ ap (λ (b : Bool). filter p (range_with_len 0 n) ++ cond b (n ∷ []) []) one) h in
+          elim (Contains-push_cases (filter p (range_with_len 0 n)) n k parts) [
+            | inl before ↦ (let g = passes p n k before in (omega (arith, g.0), g.1))
+            | inr same ↦ (omega (arith, same), ap p (sym same) ∙ one)
+          ])
+      | inr none ↦ (
+          let parts = subst P (whole ∙ ap (λ (b : Bool). filter p (range_with_len 0 n) ++ cond b (n ∷ []) []) none ∙ append-nil (filter p (range_with_len 0 n))) h in
+          let g = passes p n k parts in (omega (arith, g.0), g.1))
     ]
 
 has_past : (set : List Bool) (k : ℕ) → length set ≤ k → has set k ≡ false
@@ -148,7 +148,7 @@ field_of_set set =
     record {
       count = length-map-range_with_len f 0 n;
       bits = λ i. elim (cases_lt (i / 8) n) [
-          inl inside ↦ (
+        | inl inside ↦ (
             let octet : get_or (bit_field set) (i / 8) 0 ≡ f (i / 8) = get_or-map-range_with_len f 0 n (i / 8) (i / 8) 0 inside (omega arith) in
             let place : 8 * (i / 8) + i % 8 ≡ i = omega arith in
             ap (λ (m : ℕ). eqb (bit_at m (i % 8)) 1) octet ∙ bit_of_number (take 8 (drop (8 * (i / 8)) set)) (i % 8)
@@ -157,7 +157,7 @@ field_of_set set =
             let long = length-map-range_with_len f 0 n in
             let none : get_or (bit_field set) (i / 8) 0 ≡ 0 = get_or_past (bit_field set) (i / 8) 0 (omega arith) in
             ap (λ (m : ℕ). eqb (bit_at m (i % 8)) 1) none ∙ ap (λ (m : ℕ). eqb m 1) (bit_at-zero (i % 8)) ∙ sym (has_past set i (omega arith)))
-        ];
+      ];
     }
 
 small_part : (set : List Bool) (j : ℕ) → number_of_bits (take 8 (drop (8 * j) set)) < 2 ^ 8

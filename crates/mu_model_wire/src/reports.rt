@@ -22,8 +22,7 @@ pub fn reports()
     ensures one_set { ReportsNameOneSet }
     ensures in_order { ReportsOfASetAreInOrder }
     ensures of_a_set { ReportOfASetNamesIt }
-{
-}
+{}
 
 /// Octets are one list of patterns or have one fault, as the grammar reads them.
 pub fn lists()
