@@ -1,5 +1,5 @@
 -- What `replay` has done between two lines, and what each next thing makes of it.
-use Rattle.std.proofs.Common.{◌≡◌, ◌≢◌, ℕ, ◌+◌, ◌-◌, ◌<◌, ◌≤◌, List, [], ◌∷◌, ◌++◌, length, take, drop, take-take, Option, Some, None, refl, sym, ap, ◌∙◌, subst, append_assoc, arith, length-append, inl, inr, ◌⊎◌}
+use Rattle.std.proofs.Common.{◌≡◌, ◌≢◌, ℕ, ◌+◌, ◌-◌, ◌<◌, ◌≤◌, List, [], ◌∷◌, ◌++◌, length, take, drop, take-take, Option, Some, None, Ok, Err, refl, sym, ap, ◌∙◌, subst, append_assoc, arith, length-append, inl, inr, ◌⊎◌}
 use Rattle.std.proofs.lemmas.List.{append-nil, take_all, take_at, take-append-drop}
 use Rattle.std.proofs.Math.Seq.{take-append-add}
 use Rattle.std.specs.Prelude.{codes}
@@ -11,8 +11,13 @@ use Rattle.mu_model_script.specs.Lines.{line_event}
 use Rattle.mu_model_world.specs.World.{World, new_world}
 use Rattle.mu_model_world.specs.Judged.{judged, Refused}
 use Rattle.mu_model_world.specs.Run.{Step, Run, Prints, Refuses}
-use Rattle.mu_top.specs.Reading.{IsPart}
-use Rattle.mu_top.specs.Replay.{IsWhole, IsRefused, IsTooLong, IsInPart, IsTraceOfSome, IsBeginning}
+use Rattle.mu_top.specs.Reading.{IsPart, Reader, to_come, WhereTold, IsAtRest, NextLine, GivesLine, Took, Wrote, WroteSome}
+use Rattle.mu_top.specs.declared.reader.Next.TheVariants.{Line, Last, End}
+use Rattle.mu_top.specs.declared.reader.ReadStop.TheVariants as Stop
+use Rattle.mu_top.specs.declared.status.Status.TheVariants.{Done, SourceFault, SinkFault, Refused as IsRefusedStatus, NoMemory, TooLong}
+use Rattle.mu_top.specs.declared.status.Status.{Status}
+use Rattle.mu_top.proofs.Told.{Both, both_map, both_source, both_sink}
+use Rattle.mu_top.specs.Replay.{ReplayEnds, IsWhole, IsRefused, IsTooLong, IsInPart, IsTraceOfSome, IsBeginning}
 use Rattle.mu_top.proofs.Cuts.{lines_in_front, lines_in_end, lines_in_line, lines_in_last, BeginsLong, lines_in_long, lines_in_part, lines_in_more, pieces_at, pieces_ended, pieces_part, ended_front}
 
 -- Between two lines: the octets of the input that are done and those to come, how many lines are done, the world that they
@@ -218,3 +223,60 @@ in_part held whole written text count is trace = record {
   begins = append_assoc written (take count text) (drop count text) ∙ (ap (λ t. written ++ t) (take-append-drop count text) ∙ sym is);
   trace = trace;
 }
+
+-- ---- the same of what the source and the sink tell
+
+-- what holds between two lines
+abbrev pub Between : Reader → World → ℕ → List ℕ → List ℕ → List ℕ → List ℕ → Type 0
+Between reader world count held left before after = (written : List ℕ) × (after ≡ before ++ written) × Replaying held (to_come reader left) reader.given world count written
+
+abbrev pub Ended : Status → List ℕ → List ℕ → List ℕ → List ℕ → Type 0
+Ended status held left before after = (written : List ℕ) × (after ≡ before ++ written) × ReplayEnds held left written status
+
+abbrev pub IsBetween : (S0 S1 K0 K1 : Option (List ℕ)) → Reader → World → ℕ → Type 0
+IsBetween S0 S1 K0 K1 reader world count = Both S0 S1 K0 K1 (Between reader world count)
+
+left_none : (ahead left : List ℕ) → ahead ++ left ≡ [] → left ≡ []
+left_none [] left is = is
+left_none (octet ∷ ahead) left is = absurd cc
+
+left_all : (r : Reader) (left : List ℕ) → r.ahead ≡ [] → to_come r left ≡ left
+left_all r left none = ap (λ a. a ++ left) none
+
+-- at the limit of lines
+pub limit_more : (S0 S1 S2 K0 K1 : Option (List ℕ)) (old new : Reader) (world : World) (count : ℕ) → count ≡ 100000 → 0 < length new.ahead
+    → IsBetween S0 S1 K0 K1 old world count → WhereTold S1 S2 (IsAtRest old new) → Both S0 S2 K0 K1 (Ended TooLong)
+limit_more S0 S1 S2 K0 K1 old new world count full some = both_source S0 S1 S2 K0 K1 (Between old world count) (Ended TooLong) (IsAtRest old new) (λ held left left' before after x rest.
+    (x.0, x.1, at_last_line held (to_come old left) old.given count world x.0 x.2 full (λ (none : to_come old left ≡ []). nothing new.ahead left' some (sym rest.same ∙ none))))
+  where
+    nothing : (ahead left : List ℕ) → 0 < length ahead → ahead ++ left ≡ [] → ⊥
+    nothing [] left some is = absurd (omega arith)
+    nothing (octet ∷ ahead) left some is = absurd cc
+
+pub limit_end : (S0 S1 S2 K0 K1 : Option (List ℕ)) (old new : Reader) (world : World) (count : ℕ)
+    → IsBetween S0 S1 K0 K1 old world count → WhereTold S1 S2 (λ before after. IsAtRest old new before after × (to_come new after ≡ [])) → Both S0 S2 K0 K1 (Ended Done)
+limit_end S0 S1 S2 K0 K1 old new world count = both_source S0 S1 S2 K0 K1 (Between old world count) (Ended Done) _ (λ held left left' before after x rest.
+    (x.0, x.1, at_end held left' old.given count world x.0 (subst (λ r. Replaying held r old.given world count x.0) (rest.0.same ∙ rest.1) x.2) (left_none new.ahead left' rest.1)))
+
+-- the source failed
+pub source_failed : (S0 S1 S2 K0 K1 : Option (List ℕ)) (old new : Reader) (world : World) (count : ℕ) → new.ahead ≡ []
+    → IsBetween S0 S1 K0 K1 old world count → WhereTold S1 S2 (λ before after. (part : List ℕ) × IsPart part × (to_come old before ≡ part ++ to_come new after)) → Both S0 S2 K0 K1 (Ended SourceFault)
+source_failed S0 S1 S2 K0 K1 old new world count none = both_source S0 S1 S2 K0 K1 (Between old world count) (Ended SourceFault) _ (λ held left left' before after x read.
+    (x.0, x.1, at_source held read.0 left' old.given count world x.0 (subst (λ r. Replaying held r old.given world count x.0) (read.2 ∙ ap (λ r. read.0 ++ r) (left_all new left' none)) x.2) read.1))
+
+-- the limit of octets
+pub octets_passed : (S0 S1 S2 K0 K1 : Option (List ℕ)) (old new : Reader) (world : World) (count : ℕ)
+    → IsBetween S0 S1 K0 K1 old world count → WhereTold S1 S2 (λ before after. NextLine old new before after (Err Stop.TooLong)) → Both S0 S2 K0 K1 (Ended TooLong)
+octets_passed S0 S1 S2 K0 K1 old new world count = both_source S0 S1 S2 K0 K1 (Between old world count) (Ended TooLong) _ (λ held left left' before after x stopped.
+    let s = stopped.0 in (
+      x.0,
+      x.1,
+      at_limit held new.line (to_come new left') old.given count world x.0 (subst (λ r. Replaying held r old.given world count x.0) s.took.taken x.2) s.part s.short
+          (sym s.took.given ∙ stopped.2) stopped.1,
+    ))
+
+-- the end of the input
+pub input_ended : (S0 S1 S2 K0 K1 : Option (List ℕ)) (old new : Reader) (world : World) (count : ℕ)
+    → IsBetween S0 S1 K0 K1 old world count → WhereTold S1 S2 (λ before after. NextLine old new before after (Ok End)) → Both S0 S2 K0 K1 (Ended Done)
+input_ended S0 S1 S2 K0 K1 old new world count = both_source S0 S1 S2 K0 K1 (Between old world count) (Ended Done) _ (λ held left left' before after x ended.
+    (x.0, x.1, at_end held left' old.given count world x.0 (subst (λ r. Replaying held r old.given world count x.0) ended.0 x.2) (left_none new.ahead left' (sym ended.1.taken ∙ ended.0))))

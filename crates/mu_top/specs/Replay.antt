@@ -60,3 +60,10 @@ ReplayEnds held left written _ = ⊥
 abbrev pub Replays : (source source' sink sink' : Option (List ℕ)) → Status → Type 0
 Replays source source' sink sink' status =
     WhereTold source source' (λ held left. WhereTold sink sink' (λ before after. (written : List ℕ) × (after ≡ before ++ written) × ReplayEnds held left written status))
+
+-- what is written of a refusal's line, by the status
+abbrev pub Told : (sink sink' : Option (List ℕ)) (text : List ℕ) → Status → Type 0
+Told sink sink' text Refused = WhereTold sink sink' (λ before after. after ≡ before ++ text)
+Told sink sink' text SinkFault = WhereTold sink sink' (λ before after. (count : ℕ) × (after ≡ before ++ take count text))
+Told sink sink' text NoMemory = WhereTold sink sink' (λ before after. after ≡ before)
+Told sink sink' text _ = ⊥

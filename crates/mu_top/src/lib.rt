@@ -7,6 +7,7 @@ mod lines;
 mod member;
 mod node;
 mod reader;
+mod replay;
 mod status;
 mod words;
 mod world;
