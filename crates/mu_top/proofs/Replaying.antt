@@ -12,12 +12,16 @@ use Rattle.mu_model_world.specs.World.{World, new_world}
 use Rattle.mu_model_world.specs.Judged.{judged, Refused}
 use Rattle.mu_model_world.specs.Run.{Step, Run, Prints, Refuses}
 use Rattle.mu_top.specs.Reading.{IsPart, Reader, to_come, WhereTold, IsAtRest, NextLine, GivesLine, Took, Wrote, WroteSome}
+use Rattle.mu_top.specs.declared.reader.Next.{Next}
 use Rattle.mu_top.specs.declared.reader.Next.TheVariants.{Line, Last, End}
 use Rattle.mu_top.specs.declared.reader.ReadStop.TheVariants as Stop
-use Rattle.mu_top.specs.declared.status.Status.TheVariants.{Done, SourceFault, SinkFault, Refused as IsRefusedStatus, NoMemory, TooLong}
+use Rattle.mu_top.specs.declared.status.Status.TheVariants.{Done, Usage, SourceFault, SinkFault, Refused as IsRefusedStatus, NoMemory, TooLong}
 use Rattle.mu_top.specs.declared.status.Status.{Status}
 use Rattle.mu_top.proofs.Told.{Both, both_map, both_source, both_sink}
-use Rattle.mu_top.specs.Replay.{ReplayEnds, IsWhole, IsRefused, IsTooLong, IsInPart, IsTraceOfSome, IsBeginning}
+use Rattle.mu_top.specs.declared.line.LineStop.{LineStop}
+use Rattle.mu_top.specs.declared.line.LineStop.TheVariants.{Memory, Refused as RefusedLine}
+use Rattle.mu_top.specs.LineDone.{word_of, Stops, EndsAt}
+use Rattle.mu_top.specs.Replay.{ReplayEnds, Told, IsWhole, IsRefused, IsTooLong, IsInPart, IsTraceOfSome, IsBeginning}
 use Rattle.mu_top.proofs.Cuts.{lines_in_front, lines_in_end, lines_in_line, lines_in_last, BeginsLong, lines_in_long, lines_in_part, lines_in_more, pieces_at, pieces_ended, pieces_part, ended_front}
 
 -- Between two lines: the octets of the input that are done and those to come, how many lines are done, the world that they
@@ -259,10 +263,10 @@ limit_end S0 S1 S2 K0 K1 old new world count = both_source S0 S1 S2 K0 K1 (Betwe
     (x.0, x.1, at_end held left' old.given count world x.0 (subst (λ r. Replaying held r old.given world count x.0) (rest.0.same ∙ rest.1) x.2) (left_none new.ahead left' rest.1)))
 
 -- the source failed
-pub source_failed : (S0 S1 S2 K0 K1 : Option (List ℕ)) (old new : Reader) (world : World) (count : ℕ) → new.ahead ≡ []
-    → IsBetween S0 S1 K0 K1 old world count → WhereTold S1 S2 (λ before after. (part : List ℕ) × IsPart part × (to_come old before ≡ part ++ to_come new after)) → Both S0 S2 K0 K1 (Ended SourceFault)
-source_failed S0 S1 S2 K0 K1 old new world count none = both_source S0 S1 S2 K0 K1 (Between old world count) (Ended SourceFault) _ (λ held left left' before after x read.
-    (x.0, x.1, at_source held read.0 left' old.given count world x.0 (subst (λ r. Replaying held r old.given world count x.0) (read.2 ∙ ap (λ r. read.0 ++ r) (left_all new left' none)) x.2) read.1))
+pub source_failed : (S0 S1 S2 K0 K1 : Option (List ℕ)) (old new : Reader) (world : World) (count : ℕ)
+    → IsBetween S0 S1 K0 K1 old world count → WhereTold S1 S2 (λ before after. (new.ahead ≡ []) × ((part : List ℕ) × IsPart part × (to_come old before ≡ part ++ to_come new after))) → Both S0 S2 K0 K1 (Ended SourceFault)
+source_failed S0 S1 S2 K0 K1 old new world count = both_source S0 S1 S2 K0 K1 (Between old world count) (Ended SourceFault) _ (λ held left left' before after x read.
+    (x.0, x.1, at_source held read.1.0 left' old.given count world x.0 (subst (λ r. Replaying held r old.given world count x.0) (read.1.2 ∙ ap (λ r. read.1.0 ++ r) (left_all new left' read.0)) x.2) read.1.1))
 
 -- the limit of octets
 pub octets_passed : (S0 S1 S2 K0 K1 : Option (List ℕ)) (old new : Reader) (world : World) (count : ℕ)
@@ -280,3 +284,164 @@ pub input_ended : (S0 S1 S2 K0 K1 : Option (List ℕ)) (old new : Reader) (world
     → IsBetween S0 S1 K0 K1 old world count → WhereTold S1 S2 (λ before after. NextLine old new before after (Ok End)) → Both S0 S2 K0 K1 (Ended Done)
 input_ended S0 S1 S2 K0 K1 old new world count = both_source S0 S1 S2 K0 K1 (Between old world count) (Ended Done) _ (λ held left left' before after x ended.
     (x.0, x.1, at_end held left' old.given count world x.0 (subst (λ r. Replaying held r old.given world count x.0) ended.0 x.2) (left_none new.ahead left' (sym ended.1.taken ∙ ended.0))))
+
+-- a line is refused, with what was written before it
+pub record RefusedHere (held before after : List ℕ) (number place : ℕ) (word : List ℕ) : Type 0 where
+  pub text : List ℕ
+  pub is : after ≡ before ++ text
+  pub refused : Refuses (lines_done held) text number place word
+  pub some : IsTraceOfSome held text
+
+-- the line of a refusal, as far as it was written
+refused_told : (S0 S1 K0 K1 K2 : Option (List ℕ)) (X : List ℕ → List ℕ → List ℕ → List ℕ → Type 0) (number place : ℕ) (word : List ℕ) (status : Status)
+    → ((held left before after : List ℕ) → X held left before after → RefusedHere held before after number place word)
+    → Both S0 S1 K0 K1 X → Told K1 K2 (refused_text number place word) status → Both S0 S1 K0 K2 (Ended status)
+refused_told S0 S1 K0 K1 K2 X number place word IsRefusedStatus f x told = both_sink S0 S1 K0 K1 K2 X (Ended IsRefusedStatus) _ (λ held left before after after' x wrote.
+    let h = f held left before after x in
+    let line = refused_text number place word in
+    (h.text ++ line, wrote ∙ (ap (λ t. t ++ line) h.is ∙ append_assoc before h.text line), record { text = h.text; number = number; place = place; word = word; refused = h.refused; written_is = refl })) x told
+refused_told S0 S1 K0 K1 K2 X number place word SinkFault f x told = both_sink S0 S1 K0 K1 K2 X (Ended SinkFault) _ (λ held left before after after' x wrote.
+    let h = f held left before after x in
+    let line = refused_text number place word in (
+      h.text ++ take wrote.0 line,
+      wrote.1 ∙ (ap (λ t. t ++ take wrote.0 line) h.is ∙ append_assoc before h.text (take wrote.0 line)),
+      in_part held (h.text ++ line) h.text line wrote.0 refl (inr (record { text = h.text; number = number; place = place; word = word; refused = h.refused; written_is = refl })),
+    )) x told
+refused_told S0 S1 K0 K1 K2 X number place word NoMemory f x told = both_sink S0 S1 K0 K1 K2 X (Ended NoMemory) _ (λ held left before after after' x wrote.
+    let h = f held left before after x in
+    (h.text, wrote ∙ h.is, h.some)) x told
+refused_told S0 S1 K0 K1 K2 X number place word Done f x told = absurd told
+refused_told S0 S1 K0 K1 K2 X number place word Usage f x told = absurd told
+refused_told S0 S1 K0 K1 K2 X number place word SourceFault f x told = absurd told
+refused_told S0 S1 K0 K1 K2 X number place word TooLong f x told = absurd told
+
+-- ---- a line came
+
+-- the line that was read, and what came behind it
+pub data Came (old new : Reader) (before after : List ℕ) : Next → Type 0 where
+  whole : GivesLine old new before after (new.line ++ line_feed ∷ []) → Came old new before after Line
+  last : GivesLine old new before after new.line → new.line ≢ [] → to_come new after ≡ [] → Came old new before after Last
+
+-- what has come since the lines that are done
+pub record Holding (old new : Reader) (world : World) (count : ℕ) (next : Next) (held left before after : List ℕ) : Type 0 where
+  pub left_before : List ℕ
+  pub written : List ℕ
+  pub is : after ≡ before ++ written
+  pub between : Replaying held (to_come old left_before) old.given world count written
+  pub came : Came old new left_before left next
+
+pub line_came : (S0 S1 S2 K0 K1 : Option (List ℕ)) (old new : Reader) (world : World) (count : ℕ) (next : Next) → (next ≡ End → ⊥)
+    → IsBetween S0 S1 K0 K1 old world count → WhereTold S1 S2 (λ before after. NextLine old new before after (Ok next)) → Both S0 S2 K0 K1 (Holding old new world count next)
+line_came S0 S1 S2 K0 K1 old new world count Line some = both_source S0 S1 S2 K0 K1 (Between old world count) _ _ (λ held left left' before after x came.
+    record { left_before = left; written = x.0; is = x.1; between = x.2; came = whole came })
+line_came S0 S1 S2 K0 K1 old new world count Last some = both_source S0 S1 S2 K0 K1 (Between old world count) _ _ (λ held left left' before after x came.
+    record { left_before = left; written = x.0; is = x.1; between = x.2; came = last came.0 came.1 came.2 })
+line_came S0 S1 S2 K0 K1 old new world count End some = absurd (some refl)
+
+fits_line : (line : List ℕ) → length (line ++ line_feed ∷ []) ≡ length line + 1
+fits_line line = length-append line (line_feed ∷ [])
+
+-- the rest of the input, at a line that LF ends
+at_line : (held : List ℕ) (old new : Reader) (world : World) (count : ℕ) (written before after : List ℕ) → Replaying held (to_come old before) old.given world count written → Took old new before after (new.line ++ line_feed ∷ [])
+    → Replaying held (new.line ++ line_feed ∷ to_come new after) old.given world count written
+at_line held old new world count written before after r took = subst (λ rest. Replaying held rest old.given world count written) (took.taken ∙ append_assoc new.line (line_feed ∷ []) (to_come new after)) r
+
+at_last : (held : List ℕ) (old new : Reader) (world : World) (count : ℕ) (written before after : List ℕ) → Replaying held (to_come old before) old.given world count written → Took old new before after new.line
+    → to_come new after ≡ [] → Replaying held new.line old.given world count written
+at_last held old new world count written before after r took none = subst (λ rest. Replaying held rest old.given world count written) (took.taken ∙ (ap (λ rest. new.line ++ rest) none ∙ append-nil new.line)) r
+
+-- the line is the next of the input
+pub record IsNext (held : List ℕ) (line : List ℕ) (world : World) (count : ℕ) (written : List ℕ) : Type 0 where
+  pub rest : List ℕ
+  pub given : ℕ
+  pub between : Replaying held rest given world count written
+  pub next : NextIs held between.done line
+
+is_next : (held left before : List ℕ) (old new : Reader) (world : World) (count : ℕ) (written : List ℕ) (next : Next) → Replaying held (to_come old before) old.given world count written → Came old new before left next
+    → IsNext held new.line world count written
+is_next held left before old new world count written Line r (whole came) =
+    let here = at_line held old new world count written before left r came.took in
+    record { rest = new.line ++ line_feed ∷ to_come new left; given = old.given; between = here; next = next_line held new.line (to_come new left) old.given count world written here came.part (omega (arith, came.took.given, came.took.within, fits_line new.line)) }
+is_next held left before old new world count written Last r (last came some none) =
+    let here = at_last held old new world count written before left r came.took none in
+    record { rest = new.line; given = old.given; between = here; next = last_line held new.line old.given count world written here came.part some (omega (arith, came.took.given, came.took.within)) }
+is_next held left before old new world count written End r came = elim came [ ]
+
+-- the line is refused
+pub next_refused : (S0 S1 K0 K1 K2 : Option (List ℕ)) (old new : Reader) (world : World) (count : ℕ) (next : Next) (place : ℕ) (word : List ℕ) (status : Status) → count + 1 ≤ 100000 → judged world new.line ≡ Refused place word
+    → Both S0 S1 K0 K1 (Holding old new world count next) → Told K1 K2 (refused_text (count + 1) place word) status → Both S0 S1 K0 K2 (Ended status)
+next_refused S0 S1 K0 K1 K2 old new world count next place word status few refused holding told =
+    refused_told S0 S1 K0 K1 K2 (Holding old new world count next) (count + 1) place word status (λ held left before after h.
+    let n = is_next held left h.left_before old new world count h.written next h.between h.came in
+    record { text = h.written; is = h.is; refused = refused_next held n.rest new.line n.given count place world h.written word n.between n.next few refused; some = some_done held n.rest n.given count world h.written n.between })
+    holding told
+
+-- the line is longer than a line may be
+pub long_refused : (S0 S1 S2 K0 K1 K2 : Option (List ℕ)) (old new : Reader) (world : World) (count : ℕ) (status : Status) → count + 1 ≤ 100000
+    → IsBetween S0 S1 K0 K1 old world count → WhereTold S1 S2 (λ before after. NextLine old new before after (Err Stop.LongLine))
+    → Told K1 K2 (refused_text (count + 1) 4096 (codes "long")) status → Both S0 S2 K0 K2 (Ended status)
+long_refused S0 S1 S2 K0 K1 K2 old new world count status few between long told =
+    refused_told S0 S2 K0 K1 K2 (λ held left before after. RefusedHere held before after (count + 1) 4096 (codes "long")) (count + 1) 4096 (codes "long") status (λ held left before after h. h)
+    (both_source S0 S1 S2 K0 K1 (Between old world count) _ _ (λ held left left' before after x l.
+    let took = l.2.2 in
+    let here = subst (λ rest. Replaying held rest old.given world count x.0) took.taken x.2 in
+    record {
+      text = x.0;
+      is = x.1;
+      refused = long_next held new.line (to_come new left') l.2.0 old.given count world x.0 here (part_more new.line l.2.0 l.0 l.2.1) l.1 (omega (arith, took.given, took.within)) few;
+      some = some_done held (to_come old left) old.given count world x.0 x.2;
+    }) between long) told
+  where
+    part_more : (line : List ℕ) (octet : ℕ) → IsPart line → octet ≢ line_feed → IsPart (line ++ octet ∷ [])
+    part_more [] octet is other = (other, tt)
+    part_more (x ∷ line) octet is other = (is.0, part_more line octet is.1 other)
+
+-- want of memory
+memory_lacks : (S0 S1 K0 K1 : Option (List ℕ)) (old new : Reader) (world : World) (count : ℕ) (next : Next) → Both S0 S1 K0 K1 (Holding old new world count next) → Both S0 S1 K0 K1 (Ended NoMemory)
+memory_lacks S0 S1 K0 K1 old new world count next = both_map S0 S1 K0 K1 _ _ (λ held left before after h.
+    (h.written, h.is, some_done held (to_come old h.left_before) old.given count world h.written h.between))
+
+-- the line wasn't done
+pub line_stopped : (S0 S1 K0 K1 K2 : Option (List ℕ)) (old new : Reader) (world after_world : World) (count : ℕ) (next : Next) (before after : List ℕ) (stop : LineStop) (status : Status) → count + 1 ≤ 100000
+    → Stops world new.line before after after_world stop → Both S0 S1 K0 K1 (Holding old new world count next) → EndsAt K1 K2 (count + 1) stop status → Both S0 S1 K0 K2 (Ended status)
+line_stopped S0 S1 K0 K1 K2 old new world after_world count next before after Memory status few stops holding ends =
+    rw (ends.0, ends.1) (memory_lacks S0 S1 K0 K1 old new world count next holding)
+line_stopped S0 S1 K0 K1 K2 old new world after_world count next before after (RefusedLine place why) status few stops holding ends =
+    next_refused S0 S1 K0 K1 K2 old new world count next place (word_of why) status few stops.0 holding ends
+
+-- the sink failed at the line's text
+pub line_unwritten : (S0 S1 K0 K1 K2 : Option (List ℕ)) (old new : Reader) (world end : World) (count : ℕ) (next : Next) (text : List ℕ) → count + 1 ≤ 100000 → Step world new.line text end
+    → Both S0 S1 K0 K1 (Holding old new world count next) → WroteSome K1 K2 text → Both S0 S1 K0 K2 (Ended SinkFault)
+line_unwritten S0 S1 K0 K1 K2 old new world end count next text few step = both_sink S0 S1 K0 K1 K2 (Holding old new world count next) (Ended SinkFault) _ (λ held left before after after' h wrote.
+    let n = is_next held left h.left_before old new world count h.written next h.between h.came in (
+      h.written ++ take wrote.0 text,
+      wrote.1 ∙ (ap (λ t. t ++ take wrote.0 text) h.is ∙ append_assoc before h.written (take wrote.0 text)),
+      in_part held (h.written ++ text) h.written text wrote.0 refl (inl (some_next held n.rest new.line n.given count world end h.written text n.between n.next few step)),
+    ))
+
+-- the last line is done
+pub last_written : (S0 S1 K0 K1 K2 : Option (List ℕ)) (old new : Reader) (world end : World) (count : ℕ) (text : List ℕ) → count + 1 ≤ 100000 → Step world new.line text end
+    → Both S0 S1 K0 K1 (Holding old new world count Last) → Wrote K1 K2 text → Both S0 S1 K0 K2 (Ended Done)
+last_written S0 S1 K0 K1 K2 old new world end count text few step = both_sink S0 S1 K0 K1 K2 (Holding old new world count Last) (Ended Done) _ (λ held left before after after' h wrote.
+    (h.written ++ text, wrote ∙ (ap (λ t. t ++ text) h.is ∙ append_assoc before h.written text), by held left before h.left_before h.written h.between h.came))
+  where
+    by : (held left before left_before written : List ℕ) → Replaying held (to_come old left_before) old.given world count written → Came old new left_before left Last → IsWhole held left (written ++ text)
+    by held left before left_before written r (last came some none) =
+        last_done held new.line left old.given count world end written text (at_last held old new world count written left_before left r came.took none) came.part some (omega (arith, came.took.given, came.took.within)) few step (left_none new.ahead left none)
+
+-- a line that LF ends is done
+pub line_written : (S0 S1 K0 K1 K2 : Option (List ℕ)) (old new : Reader) (world end : World) (count : ℕ) (text : List ℕ) → count + 1 ≤ 100000 → Step world new.line text end
+    → Both S0 S1 K0 K1 (Holding old new world count Line) → Wrote K1 K2 text → IsBetween S0 S1 K0 K2 new end (count + 1)
+line_written S0 S1 K0 K1 K2 old new world end count text few step = both_sink S0 S1 K0 K1 K2 (Holding old new world count Line) (Between new end (count + 1)) _ (λ held left before after after' h wrote.
+    (h.written ++ text, wrote ∙ (ap (λ t. t ++ text) h.is ∙ append_assoc before h.written text), by held left before h.left_before h.written h.between h.came))
+  where
+    by : (held left before left_before written : List ℕ) → Replaying held (to_come old left_before) old.given world count written → Came old new left_before left Line → Replaying held (to_come new left) new.given end (count + 1) (written ++ text)
+    by held left before left_before written r (whole came) =
+        subst (λ given. Replaying held (to_come new left) given end (count + 1) (written ++ text)) (sym (came.took.given ∙ ap (λ k. old.given + k) (fits_line new.line)))
+        (line_done held new.line (to_come new left) old.given count world end written text (at_line held old new world count written left_before left r came.took) came.part (omega (arith, came.took.given, came.took.within, fits_line new.line)) few step)
+
+-- what is neither the end nor the last line is a line that LF ends
+pub only_line : (next : Next) → (next ≡ End → ⊥) → (next ≡ Last → ⊥) → next ≡ Line
+only_line Line a b = refl
+only_line Last a b = absurd (b refl)
+only_line End a b = absurd (a refl)

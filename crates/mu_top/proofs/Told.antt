@@ -51,6 +51,14 @@ drop-whole xs d = take_all (length xs - d) (drop d xs) (omega (arith, length-dro
 pub wrote_more : (o m n : Option (List ℕ)) (xs : List ℕ) (d k : ℕ) → Wrote o m (take d xs) → WriteTakes m n (take (length xs - d) (drop d xs)) k → Wrote o n (take (d + k) xs)
 wrote_more o m n xs d k first more = wrote_on o m n xs d k first (subst (λ rest. WriteTakes m n rest k) (drop-whole xs d) more)
 
+-- two facts about one call
+pub told_both : (o n : Option (List ℕ)) (P Q : List ℕ → List ℕ → Type 0) → WhereTold o n P → WhereTold o n Q → WhereTold o n (λ before after. P before after × Q before after)
+told_both o None P Q p q = tt
+told_both o (Some after) P Q p q =
+    let same : Some q.0 ≡ Some p.0 = sym q.1 ∙ p.1 in
+    let one : q.0 ≡ p.0 = cc in
+    (p.0, p.1, (p.2, subst (λ before. Q before after) one q.2))
+
 -- what a source and a sink tell, since a beginning
 abbrev pub Both : (S0 S1 K0 K1 : Option (List ℕ)) → (List ℕ → List ℕ → List ℕ → List ℕ → Type 0) → Type 0
 Both S0 S1 K0 K1 X = WhereTold S0 S1 (λ held left. WhereTold K0 K1 (X held left))

@@ -1,6 +1,7 @@
 //! The commands of the program, over the outside that is handed in.
 #![tactic(auto)]
 
+mod call;
 mod grammar;
 mod line;
 mod lines;
@@ -13,5 +14,6 @@ mod words;
 mod world;
 mod writing;
 
+pub use call::{Ended, top};
 pub use status::Status;
 pub use words::{Command, WordList, read_words};

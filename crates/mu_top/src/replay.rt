@@ -1,9 +1,9 @@
 // Running a script.
-ghost use Rattle.std.specs.Prelude.{◌≡◌, ◌≤◌, []};
+ghost use Rattle.std.specs.Prelude.{◌≡◌, ◌≢◌, []};
 ghost use Rattle.mu_model_flash.specs.Cause.{Rose};
 ghost use Rattle.mu_model_script.specs.Texts.{refused_text};
 ghost use Rattle.mu_model_world.specs.World.{new_world};
-ghost use Rattle.mu_top.specs.LineDone.{word_of};
+ghost use Rattle.mu_top.specs.LineDone.{word_of, EndsAt};
 ghost use Rattle.mu_top.specs.Replay.{Replays, Told};
 
 use crate::line::{LineStop, Why, do_line};
@@ -21,11 +21,12 @@ const MOST_LINES: u32 = 100_000;
 
 /// Prints the line of a refusal.
 fn refuse<K: Sink>(lines: &mut Lines, sink: &mut K, number: u32, place: u16, why: Why) -> Status
-    requires { lines.old ≡ [] }
     ensures told { Told (K.written sink.old) (K.written sink.new) (refused_text number place (word_of why)) result }
     ensures sink { result ≡ Status.SinkFault → Rose (K.faults sink.old) (K.faults sink.new) }
-    ensures later { K.faults sink.old ≤ K.faults sink.new }
+    ensures command { result ≢ Status.Usage }
+    ensures source { result ≢ Status.SourceFault }
 {
+    lines.clear();
     if lines.refused(number, place, why.word()).is_err() {
         return Status::NoMemory;
     }
@@ -33,6 +34,19 @@ fn refuse<K: Sink>(lines: &mut Lines, sink: &mut K, number: u32, place: u16, why
         return Status::SinkFault;
     }
     Status::Refused
+}
+
+/// How the command ends at a line that wasn't done.
+fn end_at<K: Sink>(stop: LineStop, lines: &mut Lines, sink: &mut K, number: u32) -> Status
+    ensures told { EndsAt (K.written sink.old) (K.written sink.new) number stop result }
+    ensures sink { result ≡ Status.SinkFault → Rose (K.faults sink.old) (K.faults sink.new) }
+    ensures command { result ≢ Status.Usage }
+    ensures source { result ≢ Status.SourceFault }
+{
+    match stop {
+        LineStop::Memory => Status::NoMemory,
+        LineStop::Refused { place, why } => refuse(lines, sink, number, place, why),
+    }
 }
 
 /// Runs a script in a new world, with a reader that has read nothing and no text.
@@ -49,6 +63,7 @@ fn run<S: Source, K: Sink>(
     ensures replays { Replays (S.left source.old) (S.left source.new) (K.written sink.old) (K.written sink.new) result }
     ensures source { result ≡ Status.SourceFault → Rose (S.faults source.old) (S.faults source.new) }
     ensures sink { result ≡ Status.SinkFault → Rose (K.faults sink.old) (K.faults sink.new) }
+    ensures command { result ≢ Status.Usage }
 {
     let mut count = 0;
     'lines: loop {
@@ -60,7 +75,6 @@ fn run<S: Source, K: Sink>(
             }
         }
         let next = match reader.next(source) {
-            Ok(Next::End) => return Status::Done,
             Ok(next) => next,
             Err(ReadStop::Source) => return Status::SourceFault,
             Err(ReadStop::TooLong) => return Status::TooLong,
@@ -68,19 +82,20 @@ fn run<S: Source, K: Sink>(
                 return refuse(lines, sink, count + 1, 4096, Why::Line(LineWhy::Long));
             }
         };
+        if let Next::End = next {
+            return Status::Done;
+        }
         count += 1;
         match do_line(world, reader.line(), lines) {
             Ok(()) => {}
-            Err(LineStop::Memory) => return Status::NoMemory,
-            Err(LineStop::Refused { place, why }) => {
-                return refuse(lines, sink, count, place, why);
-            }
+            Err(stop) => return end_at(stop, lines, sink, count),
         }
-        if write_all(sink, lines.bytes()).is_err() {
-            return Status::SinkFault;
+        match write_all(sink, lines.bytes()) {
+            Ok(()) => {}
+            Err(_) => return Status::SinkFault,
         }
         lines.clear();
-        if next == Next::Last {
+        if let Next::Last = next {
             return Status::Done;
         }
     }
@@ -91,6 +106,7 @@ pub(crate) fn replay<S: Source, K: Sink>(alloc: Global, source: &mut S, sink: &m
     ensures replays { Replays (S.left source.old) (S.left source.new) (K.written sink.old) (K.written sink.new) result }
     ensures source { result ≡ Status.SourceFault → Rose (S.faults source.old) (S.faults source.new) }
     ensures sink { result ≡ Status.SinkFault → Rose (K.faults sink.old) (K.faults sink.new) }
+    ensures command { result ≢ Status.Usage }
 {
     let mut world = World::new(alloc);
     let mut reader = LineReader::new();
