@@ -4,7 +4,6 @@
 mod digesting;
 mod made;
 mod meta;
-
 #[cfg(test)]
 mod tests;
 

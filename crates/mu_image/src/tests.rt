@@ -2,6 +2,7 @@ use super::*;
 
 // SHA-256 of "a" and of "abc", the second as in FIPS 180-4's example.
 const DIGEST_OF_A: &str = "ca978112ca1bbdcafac231b39a23dc4da786eff8147c4e72b9807785afee48bb";
+
 const DIGEST_OF_ABC: &str = "ba7816bf8f01cfea414140de5dae2223b00361a396177a9cb410ff61f20015ad";
 
 fn digest_of(pieces: &[&[u8]]) -> [u8; 32] {
@@ -15,9 +16,18 @@ fn digest_of(pieces: &[&[u8]]) -> [u8; 32] {
 #[test]
 fn digests_are_those_of_the_standard(rt: HostRuntime) -> Result<(), anyhow::Error> {
     let alloc = rt.alloc();
-    assert_eq!(rt; hex::encode(alloc, &digest_of(&[b"a"]))?.as_str(), DIGEST_OF_A);
-    assert_eq!(rt; hex::encode(alloc, &digest_of(&[b"abc"]))?.as_str(), DIGEST_OF_ABC);
-    assert_eq!(rt; hex::encode(alloc, &digest_of(&[b"a", b"", b"bc"]))?.as_str(), DIGEST_OF_ABC);
+    assert_eq!(rt;
+        hex::encode(alloc, &digest_of(&[b"a"]))?.as_str(),
+        DIGEST_OF_A
+    );
+    assert_eq!(rt;
+        hex::encode(alloc, &digest_of(&[b"abc"]))?.as_str(),
+        DIGEST_OF_ABC
+    );
+    assert_eq!(rt;
+        hex::encode(alloc, &digest_of(&[b"a", b"", b"bc"]))?.as_str(),
+        DIGEST_OF_ABC
+    );
     Ok(())
 }
 
@@ -31,12 +41,18 @@ fn metadata_and_firmware_id_have_their_octets(rt: HostRuntime) -> Result<(), any
     };
     let octets = meta_octets(&meta);
     let text = hex::encode(alloc, &octets)?;
-    assert_eq!(rt; text.as_str(), "0300000002000000ba7816bf8f01cfea414140de5dae2223b00361a396177a9cb410ff61f20015ad");
+    assert_eq!(rt;
+        text.as_str(),
+        "0300000002000000ba7816bf8f01cfea414140de5dae2223b00361a396177a9cb410ff61f20015ad"
+    );
     assert!(rt; meta_from(&octets) == Some(meta));
     assert!(rt; meta_from(&[1; 39]) == None);
     let id = fwid_of(0xFFFF, &meta);
     let text = hex::encode(alloc, id.as_slice())?;
-    assert_eq!(rt; text.as_str(), "ffff02000000ba7816bf8f01cfea414140de5dae2223b00361a396177a9cb410ff61f20015ad");
+    assert_eq!(rt;
+        text.as_str(),
+        "ffff02000000ba7816bf8f01cfea414140de5dae2223b00361a396177a9cb410ff61f20015ad"
+    );
     Ok(())
 }
 

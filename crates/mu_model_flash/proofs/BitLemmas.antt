@@ -1,9 +1,10 @@
 -- Octets that lie between two others.
-use Rattle.std.proofs.Common.{◌≡◌, ◌⊎◌, inl, inr, ⊎_elim, ℕ, zero, suc, ◌+◌, ◌-◌, ◌<◌, ◌≤◌, ◌^◌, min, max, bit_and, bit_or, w8, List, [], ◌∷◌, ◌++◌, length, take, drop, get_or, refl, sym, ◌∙◌, ap, subst, arith, length-append, length-take, length-drop}
-use Rattle.std.proofs.lemmas.List.{length-replicate, get_or-replicate, get_or_append_left, get_or-append_right, get_or-take, get_or-drop, length-take-le, get_or_past, take_at, drop_at, ext_get_or}
+use Rattle.std.proofs.Common.{◌≡◌, ◌⊎◌, inl, inr, ⊎_elim, ℕ, ◌+◌, ◌-◌, ◌<◌, ◌≤◌, min, max, bit_and, bit_or, w8, List, ◌++◌, length, take, drop, get_or, refl, sym, ◌∙◌, ap, subst, arith, length-append, length-take, length-drop}
+use Rattle.std.proofs.lemmas.List.{length-replicate, get_or-replicate, get_or_append_left, get_or-append_right, get_or-take, get_or-drop, length-take-le, take_at, drop_at, ext_get_or}
 use Rattle.std.specs.Int.{bit_at}
-use Rattle.std.proofs.lemmas.Nat.Bits.{bit_at_and, bit_at_or, bit_at-lt, bit_at_above, bit_at_not}
-use Rattle.mu_model_flash.specs.Bits.{blank, written, IsMixOf, Between}
+use Rattle.std.proofs.lemmas.Nat.Bits.{bit_at_and, bit_at_or, bit_at-lt, bit_at_above, bit_at_ones, bit_at_not, same_from_bits}
+use Rattle.std.proofs.lemmas.Nat.{and_le_r}
+use Rattle.mu_model_flash.specs.Bits.{AreOctets, blank, written, IsMixOf, Between}
 
 pub length-blank : (n : ℕ) → length (blank n) ≡ n
 unfolding blank
@@ -112,3 +113,45 @@ mix_is a b m a_lt b_lt m_lt k =
 -- bits that are mixed twice with the same new ones
 pub mix_more : (a b c d : ℕ) → IsMixOf a b c → IsMixOf c b d → IsMixOf a b d
 mix_more a b c d first second k = ⊎_elim (λ was. ⊎_elim (λ l. inl (was ∙ l)) (λ r. inr (was ∙ r)) (first k)) (λ new. inr new) (second k)
+
+min_low : (x y : ℕ) → x ≤ y → min x y ≡ x
+min_low x y le = omega arith
+
+-- no bit is above the other's
+pub le_from_bits : (a b : ℕ) → ((k : ℕ) → bit_at a k ≤ bit_at b k) → a ≤ b
+le_from_bits a b bits =
+    let same : bit_and a b ≡ a = same_from_bits (bit_and a b) a (λ k. bit_at_and a b k ∙ min_low (bit_at a k) (bit_at b k) (bits k)) in
+    subst (λ (x : ℕ). x ≤ b) same (and_le_r a b)
+
+le_same : (x y : ℕ) → y ≡ x → x ≤ y
+le_same x y e = omega arith
+
+le_bound : (x y z : ℕ) → x < 2 → y ≡ 1 → x ≤ y
+le_bound x y z lt is = omega arith
+
+none_above : (a b g k : ℕ) → a < 256 → b < 256 → 8 ≤ k → IsMixOf a b g → bit_at g k ≡ 0
+none_above a b g k a_lt b_lt high mix = ⊎_elim (λ was. was ∙ bit_at_above a 8 k a_lt high) (λ now. now ∙ bit_at_above b 8 k b_lt high) (mix k)
+
+-- a mix of two octets is an octet
+pub mix_below : (a b g : ℕ) → a < 256 → b < 256 → IsMixOf a b g → g < 256
+mix_below a b g a_lt b_lt mix =
+    let le : g ≤ 255 = le_from_bits g 255 (λ k. ⊎_elim
+    (λ low. le_bound (bit_at g k) (bit_at 255 k) 0 (bit_at-lt g k) (bit_at_ones 8 k low))
+    (λ high. le_zero (bit_at g k) (bit_at 255 k) (none_above a b g k a_lt b_lt high mix))
+    (split k 8)) in
+    omega (arith, le)
+  where
+    le_zero : (x y : ℕ) → x ≡ 0 → x ≤ y
+    le_zero x y e = omega arith
+
+pub octets-between : (old new got : List ℕ) → AreOctets old → AreOctets new → Between old new got → AreOctets got
+octets-between old new got old_are new_are torn i = mix_below (get_or old i 0) (get_or new i 0) (get_or got i 0) (old_are i) (new_are i) (torn.bits i)
+
+pub octets-written : (old : List ℕ) (at : ℕ) (bytes : List ℕ) → at + length bytes ≤ length old → AreOctets old → AreOctets bytes → AreOctets (written old at bytes)
+octets-written old at bytes within old_are bytes_are i = each (place at (length bytes) i)
+  where
+    each : (i < at) ⊎ (((k : ℕ) × (k < length bytes) × (at + k ≡ i)) ⊎ (at + length bytes ≤ i)) → get_or (written old at bytes) i 0 < 256
+    each (inl before) = subst (λ (x : ℕ). x < 256) (sym (written-before old at bytes within i before)) (old_are i)
+    each (inr (inl in_it)) =
+        subst (λ (n : ℕ). get_or (written old at bytes) n 0 < 256) in_it.2 (subst (λ (x : ℕ). x < 256) (sym (written-inside old at bytes within in_it.0 in_it.1)) (bytes_are in_it.0))
+    each (inr (inr past)) = subst (λ (x : ℕ). x < 256) (sym (written-after old at bytes within i past)) (old_are i)

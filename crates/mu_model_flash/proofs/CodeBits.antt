@@ -1,19 +1,10 @@
 -- Pairs of octets that are complements, bit by bit.
-use Rattle.std.proofs.Common.{◌≡◌, ◌⊎◌, inl, inr, ⊎_elim, ℕ, zero, suc, ◌+◌, ◌-◌, ◌<◌, ◌≤◌, ◌^◌, min, refl, sym, ◌∙◌, ap, subst, arith, bit_and, w8}
-use Rattle.std.specs.Int.{bit_at, bit_not}
-use Rattle.std.proofs.lemmas.Nat.{and_le_r}
-use Rattle.std.proofs.lemmas.Nat.Bits.{bit_at_and, bit_at-lt, bit_at_above, bit_at_ones, bit_at_ones_above, bit_at_not, same_from_bits, same_from_bits_below}
+use Rattle.std.proofs.Common.{◌≡◌, ◌⊎◌, inl, inr, ⊎_elim, ℕ, zero, suc, ◌+◌, ◌-◌, ◌<◌, ◌≤◌, sym, ◌∙◌, ap, arith, w8}
+use Rattle.std.specs.Int.{bit_at}
+use Rattle.std.proofs.lemmas.Nat.Bits.{bit_at-lt, bit_at_above, bit_at_ones, bit_at_not, same_from_bits_below}
 use Rattle.std.proofs.lemmas.Bool.{cases_eq}
 use Rattle.mu_model_flash.specs.Bits.{IsMixOf}
-
-min_low : (x y : ℕ) → x ≤ y → min x y ≡ x
-min_low x y le = omega arith
-
--- no bit is above the other's
-pub le_from_bits : (a b : ℕ) → ((k : ℕ) → bit_at a k ≤ bit_at b k) → a ≤ b
-le_from_bits a b bits =
-    let same : bit_and a b ≡ a = same_from_bits (bit_and a b) a (λ k. bit_at_and a b k ∙ min_low (bit_at a k) (bit_at b k) (bits k)) in
-    subst (λ (x : ℕ). x ≤ b) same (and_le_r a b)
+use Rattle.mu_model_flash.proofs.BitLemmas.{le_from_bits}
 
 le_same : (x y : ℕ) → y ≡ x → x ≤ y
 le_same x y e = omega arith

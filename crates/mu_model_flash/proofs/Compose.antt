@@ -1,10 +1,12 @@
 -- Runs one after the other.
-use Rattle.std.proofs.Common.{◌≡◌, ◌⊎◌, inl, inr, ⊎_elim, ℕ, zero, suc, ◌+◌, ◌-◌, ◌^◌, ◌<◌, ◌≤◌, min, Bool, true, false, IsTrue, Option, Some, None, List, [], ◌∷◌, ◌++◌, length, refl, sym, ◌∙◌, ap, subst, arith, length-append}
+use Rattle.std.proofs.Common.{◌≡◌, inl, inr, ⊎_elim, ℕ, zero, suc, ◌+◌, ◌-◌, ◌<◌, ◌≤◌, Bool, false, IsTrue, Option, Some, None, List, [], ◌∷◌, ◌++◌, length, take, refl, sym, ◌∙◌, ap, subst, arith, length-append}
+use Rattle.std.proofs.lemmas.List.{take-append-le}
+use Rattle.std.proofs.Math.Seq.{take-append-add}
 use Rattle.mu_model_flash.specs.declared.Pattern.{Pattern}
 use Rattle.mu_model_flash.specs.declared.Pattern.TheVariants.{Old, New, Made}
 use Rattle.mu_model_flash.specs.declared.Armed.{Armed}
-use Rattle.mu_model_flash.specs.Flash.{Seen, ticks, fallen, IsBefore, Rose, IsSound}
-use Rattle.mu_model_flash.specs.Run.{Reading, exact, either, state_at, last_of, Passing, InPart, ByPattern, Keeps, Leaves, Ran, WentOff, Broke}
+use Rattle.mu_model_flash.specs.Flash.{Seen, ticks, fallen, IsBefore, IsSound, Unchanged}
+use Rattle.mu_model_flash.specs.Run.{Reading, state_at, last_of, Passing, InPart, ByPattern, Keeps, Leaves, Ran, WentOff, Broke, Stopped, Halts}
 
 module _ {S : Type 0} (R : Reading S) where
   pub last_append : (s : S) (xs ys : List S) → last_of s (xs ++ ys) ≡ last_of (last_of s xs) ys
@@ -82,6 +84,24 @@ keeps_on a b c ab bc = record {
   faults = omega (arith, ab.faults, bc.faults);
 }
 
+pub unchanged_keeps : (a b : Seen) → Unchanged a b → Keeps a b
+unchanged_keeps a b u = record { pages = u.pages; told = u.told; only_armed = u.only_armed; faults = u.faults }
+
+pub unchanged_on : (a b c : Seen) → Unchanged a b → Unchanged b c → Unchanged a c
+unchanged_on a b c ab bc =
+    let told : IsTrue a.told → IsTrue b.told = λ t. subst (λ (x : Bool). IsTrue x) (sym ab.told) t in
+    record {
+      pages = bc.pages ∙ ab.pages;
+      told = bc.told ∙ ab.told;
+      octets = λ t. bc.octets (told t) ∙ ab.octets t;
+      clock = λ t. bc.clock (told t) ∙ ab.clock t;
+      left = λ t m i. (λ l. (ab.left t m i).0 ((bc.left (told t) m i).0 l), λ l. (bc.left (told t) m i).1 ((ab.left t m i).1 l));
+      armed = bc.armed ∙ ab.armed;
+      off = bc.off ∙ ab.off;
+      only_armed = bc.only_armed ∙ ab.only_armed;
+      faults = omega (arith, ab.faults, bc.faults);
+    }
+
 pub leaves_on : (a b c : Seen) (P Q : List ℕ → Type 0) → ((i : List ℕ) → P i → Q i) → Leaves a b P → Leaves b c Q → Leaves a c Q
 leaves_on a b c P Q weak ab bc = record {
   later = omega (arith, ab.later, bc.later);
@@ -134,7 +154,15 @@ module _ {S : Type 0} (R : Reading S) where
         clock = λ t. let first = ab.clock t in let second = bc.clock (told_on a b ab.keeps t) in omega (arith, first, second, sum);
         ends = λ t. subst (λ (e : S). R.Is e c.octets) (sym (last_append R s xs ys)) (bc.ends (told_on a b ab.keeps t));
         leaves = λ t. leaves_on a b c _ _ (passing_left R s xs ys) (ab.leaves t) (leaves_more b c _ _ (passing_right R s xs ys) (bc.leaves (told_on a b ab.keeps t)));
+        still = λ none. unchanged_on a b c (ab.still (omega (arith, none, sum))) (bc.still (omega (arith, none, sum)));
       }
+
+  -- the states passed in a run and in so many operations after it
+  passing_on : (s : S) (xs ys : List S) (j : ℕ) (c : List ℕ) → Passing R s (xs ++ take j ys) c → Passing R s (take (length xs + j) (xs ++ ys)) c
+  passing_on s xs ys j c p = subst (λ (l : List S). Passing R s l c) (sym (take-append-add xs ys j)) p
+
+  passing_no_more : (s : S) (xs ys : List S) (j : ℕ) (c : List ℕ) → j ≤ length xs → Passing R s (take j xs) c → Passing R s (take j (xs ++ ys)) c
+  passing_no_more s xs ys j c le p = subst (λ (l : List S). Passing R s l c) (sym (take-append-le j xs ys le)) p
 
   -- a run, and then one that broke
   pub then_broke : (s : S) (xs ys : List S) (a b c : Seen) → Ran R s xs a b → Broke R (last_of s xs) ys b c → Broke R s (xs ++ ys) a c
@@ -148,7 +176,9 @@ module _ {S : Type 0} (R : Reading S) where
         at_most = omega (arith, bc.at_most, sum);
         clock = λ t. let first = ab.clock t in let second = bc.clock (told_on a b ab.keeps t) in omega (arith, first, second);
         ends = λ t. in_part_right R s xs ys bc.begun c.octets (bc.ends (told_on a b ab.keeps t));
-        leaves = λ t. leaves_on a b c _ _ (passing_left R s xs ys) (ab.leaves t) (leaves_more b c _ _ (passing_right R s xs ys) (bc.leaves (told_on a b ab.keeps t)));
+        leaves = λ t. leaves_more a c _ _ (passing_on s xs ys bc.begun)
+            (leaves_on a b c _ _ (passing_left R s xs (take bc.begun ys)) (ab.leaves t) (leaves_more b c _ _ (passing_right R s xs (take bc.begun ys)) (bc.leaves (told_on a b ab.keeps t))));
+        still = λ none. unchanged_on a b c (ab.still (omega (arith, none))) (bc.still (omega (arith, none)));
         stays_on = λ on.
             let here = bc.stays_on on in
             let reach : IsBefore bc.begun (fallen a.armed (length xs)) = subst (λ (o : Option Armed). IsBefore bc.begun o) ab.armed here.1 in
@@ -191,7 +221,8 @@ module _ {S : Type 0} (R : Reading S) where
         at_most = omega (arith, ab.at_most, sum);
         clock = ab.clock;
         ends = λ t. in_part_left R s xs ys ab.begun b.octets (ab.ends t);
-        leaves = λ t. leaves_more a b _ _ (passing_left R s xs ys) (ab.leaves t);
+        leaves = λ t. leaves_more a b _ _ (λ c. passing_no_more s xs ys ab.begun c ab.at_most) (ab.leaves t);
+        still = ab.still;
         stays_on = ab.stays_on;
         went_off = λ was off.
             let w = ab.went_off was off in
@@ -199,27 +230,57 @@ module _ {S : Type 0} (R : Reading S) where
         stays_off = ab.stays_off;
       }
 
+  -- a run that was ended by something else, with operations that were still to come
+  pub stopped_more : (s : S) (xs ys : List S) (a b : Seen) → Stopped R s xs a b → Stopped R s (xs ++ ys) a b
+  stopped_more s xs ys a b ab = record {
+    done = ab.done;
+    at_most = omega (arith, ab.at_most, length-append xs ys);
+    ran = subst (λ (l : List S). Ran R s l a b) (sym (take-append-le ab.done xs ys ab.at_most)) ab.ran;
+  }
+
+  -- a run, and then one that was ended by something else
+  pub then_stopped : (s : S) (xs ys : List S) (a b c : Seen) → Ran R s xs a b → Stopped R (last_of s xs) ys b c → Stopped R s (xs ++ ys) a c
+  then_stopped s xs ys a b c ab bc = record {
+    done = length xs + bc.done;
+    at_most = omega (arith, bc.at_most, length-append xs ys);
+    ran = subst (λ (l : List S). Ran R s l a c) (sym (take-append-add xs ys bc.done)) (then_ran s xs (take bc.done ys) a b c ab bc.ran);
+  }
+
+  pub halts_more : (s : S) (xs ys : List S) (ByFlash : Type 0) (a b : Seen) → Halts R s xs ByFlash a b → Halts R s (xs ++ ys) ByFlash a b
+  halts_more s xs ys ByFlash a b h = record { by_flash = λ by. broke_more s xs ys a b (h.by_flash by); otherwise = λ not. stopped_more s xs ys a b (h.otherwise not) }
+
+  pub then_halts : (s : S) (xs ys : List S) (ByFlash : Type 0) (a b c : Seen) → Ran R s xs a b → Halts R (last_of s xs) ys ByFlash b c → Halts R s (xs ++ ys) ByFlash a c
+  then_halts s xs ys ByFlash a b c ab h = record { by_flash = λ by. then_broke s xs ys a b c ab (h.by_flash by); otherwise = λ not. then_stopped s xs ys a b c ab (h.otherwise not) }
+
   -- no operation
-  pub nothing : (s : S) (a b : Seen) → IsSound a → Keeps a b → a.off ≡ false → b.off ≡ false → b.armed ≡ a.armed → (IsTrue a.told → b.clock ≡ a.clock) → (IsTrue a.told → R.Is s b.octets) → (IsTrue a.told → R.Is s a.octets) → (IsTrue a.told → (m : ℕ) (c : List ℕ) → b.left_since m c → a.left_since m c) → Ran R s [] a b
-  nothing s a b sound keeps was_on on armed clock here was left = record {
-    keeps = keeps;
-    was_on = was_on;
-    on = on;
+  pub nothing : (s : S) (a b : Seen) → IsSound a → Unchanged a b → a.off ≡ false → (IsTrue a.told → R.Is s a.octets) → Ran R s [] a b
+  nothing s a b sound same on here = record {
+    keeps = unchanged_keeps a b same;
+    was_on = on;
+    on = same.off ∙ on;
     unreached = sound.not_past;
-    armed = armed ∙ same a.armed;
-    clock = λ t. omega (arith, clock t, sound.in_u64);
-    ends = here;
+    armed = same.armed ∙ fallen_none a.armed;
+    clock = λ t. omega (arith, same.clock t, sound.clock_counted t);
+    ends = λ t. subst (λ (o : List ℕ). R.Is s o) (sym (same.octets t)) (here t);
     leaves = λ t. record {
-      later = omega (arith, clock t);
-      since = λ c l. subst (λ (o : List ℕ). R.Is s o) (sym (sound.only_now c t (left t a.clock c l))) (was t);
-      before = λ m c le l. inl (left t m c l);
+      later = omega (arith, same.clock t);
+      since = λ c l. subst (λ (o : List ℕ). R.Is s o) (sym (sound.only_now t c ((same.left t a.clock c).0 l))) (here t);
+      before = λ m c le l. inl ((same.left t m c).0 l);
     };
+    still = λ none. same;
   }
     where
-      same : (o : Option Armed) → o ≡ fallen o 0
-      same None = refl
-      same (Some x) = let e : x.number ≡ x.number - 0 = omega arith in ap (λ (m : ℕ). let y : Armed = record { number = m; pattern = x.pattern } in Some y) e
+      fallen_none : (o : Option Armed) → o ≡ fallen o 0
+      fallen_none None = refl
+      fallen_none (Some x) = let e : x.number ≡ x.number - 0 = omega arith in ap (λ (m : ℕ). let y : Armed = record { number = m; pattern = x.pattern } in Some y) e
+
+pub unchanged_same : (a : Seen) → Unchanged a a
+unchanged_same a = record { pages = refl; told = refl; octets = λ t. refl; clock = λ t. refl; left = λ t m c. (λ l. l, λ l. l); armed = refl; off = refl; only_armed = refl; faults = omega arith }
 
 -- before the first operation
 pub at_start : {S : Type 0} (R : Reading S) (s : S) (a : Seen) → IsSound a → a.off ≡ false → (IsTrue a.told → R.Is s a.octets) → Ran R s [] a a
-at_start R s a sound on here = nothing R s a a sound (record { pages = refl; told = refl; only_armed = refl; faults = omega arith }) on on refl (λ t. refl) here here (λ t m c l. l)
+at_start R s a sound on here = nothing R s a a sound (unchanged_same a) on here
+
+-- a call that something else ended before it began an operation
+pub stopped_at_start : {S : Type 0} (R : Reading S) (s : S) (steps : List S) (a b : Seen) → Ran R s [] a b → Stopped R s steps a b
+stopped_at_start R s steps a b ran = record { done = 0; at_most = omega arith; ran = ran }

@@ -1,10 +1,11 @@
 -- A run: operations begun one after the other, the states that stand after each, and what a cut may have left.
-use Rattle.std.specs.Prelude.{◌≡◌, ◌⊎◌, ℕ, zero, suc, ◌-◌, ◌<◌, ◌≤◌, Bool, true, false, IsTrue, Option, Some, None, List, [], ◌∷◌, length, Result, MatchResult}
+use Rattle.std.specs.Prelude.{◌≡◌, ◌⊎◌, ℕ, zero, suc, ◌-◌, ◌≤◌, true, false, IsTrue, Some, None, List, [], ◌∷◌, length, take, Result, MatchResult}
 use Rattle.mu_model_flash.specs.declared.Pattern.{Pattern}
 use Rattle.mu_model_flash.specs.declared.Pattern.TheVariants.{Old, New, Made}
 use Rattle.mu_model_flash.specs.Bits.{Between}
 use Rattle.mu_model_flash.specs.declared.Armed.{Armed}
-use Rattle.mu_model_flash.specs.Flash.{Seen, ticks, fallen, IsBefore, Rose}
+use Rattle.mu_model_flash.specs.Cause.{Rose}
+use Rattle.mu_model_flash.specs.Flash.{Seen, ticks, fallen, IsBefore, Unchanged}
 
 -- how octets are read as states: which stand for a state, and which an operation from one to the next may leave in part
 pub record Reading (S : Type 0) : Type 1 where
@@ -48,6 +49,13 @@ ByPattern R s steps j Old c = R.Is (state_at s steps (j - 1)) c
 ByPattern R s steps j New c = R.Is (state_at s steps j) c
 ByPattern R s steps j (Made seed) c = Unit {0}
 
+-- Each state of the one list is a state of the other, operation by operation, and so is what may stand between two.
+abbrev pub Refines : {S T : Type 0} → Reading S → Reading T → S → List S → T → List T → Type 0
+Refines R Q s [] t [] = (c : List ℕ) → R.Is s c → Q.Is t c
+Refines R Q s (x ∷ xs) t (y ∷ ys) = ((c : List ℕ) → R.Is s c → Q.Is t c) × ((c : List ℕ) → R.Torn s x c → Q.Torn t y c) × Refines R Q x xs y ys
+Refines R Q s [] t (y ∷ ys) = ⊥
+Refines R Q s (x ∷ xs) t [] = ⊥
+
 pub record Keeps (old new : Seen) : Type 0 where
   pub pages : new.pages ≡ old.pages
   pub told : new.told ≡ old.told
@@ -60,7 +68,7 @@ pub record Leaves (old new : Seen) (P : List ℕ → Type 0) : Type 0 where
   pub since : (c : List ℕ) → new.left_since old.clock c → P c
   pub before : (m : ℕ) (c : List ℕ) → m ≤ old.clock → new.left_since m c → old.left_since m c ⊎ P c
 
--- Every operation began and was done.
+-- Every operation of the list began and was done. With none in the list no meaning has changed but the count of faults.
 pub record Ran {S : Type 0} (R : Reading S) (s : S) (steps : List S) (old new : Seen) : Type 0 where
   pub keeps : Keeps old new
   pub was_on : old.off ≡ false
@@ -70,8 +78,9 @@ pub record Ran {S : Type 0} (R : Reading S) (s : S) (steps : List S) (old new : 
   pub clock : IsTrue old.told → new.clock ≡ ticks old.clock (length steps)
   pub ends : IsTrue old.told → R.Is (last_of s steps) new.octets
   pub leaves : IsTrue old.told → Leaves old new (Passing R s steps)
+  pub still : length steps ≡ 0 → Unchanged old new
 
--- the power went in the operation that was armed, the last that began
+-- The power went in the operation that was armed, the last that began.
 pub record WentOff {S : Type 0} (R : Reading S) (s : S) (steps : List S) (begun : ℕ) (old new : Seen) : Type 0 where
   pub armed : Armed
   pub was : old.armed ≡ Some armed
@@ -79,7 +88,8 @@ pub record WentOff {S : Type 0} (R : Reading S) (s : S) (steps : List S) (begun 
   pub none : new.armed ≡ None
   pub left : IsTrue old.told → ByPattern R s steps begun armed.pattern new.octets
 
--- A call failed, after which nothing began.
+-- A call failed: so many operations of the list had begun, of which the last may have been left in part, and after it none began.
+-- Where none had begun, no meaning has changed but the count of faults.
 pub record Broke {S : Type 0} (R : Reading S) (s : S) (steps : List S) (old new : Seen) : Type 0 where
   pub keeps : Keeps old new
   pub rose : Rose old.faults new.faults
@@ -88,15 +98,27 @@ pub record Broke {S : Type 0} (R : Reading S) (s : S) (steps : List S) (old new 
   pub at_most : begun ≤ length steps
   pub clock : IsTrue old.told → new.clock ≡ ticks old.clock begun
   pub ends : IsTrue old.told → InPart R s steps begun new.octets
-  pub leaves : IsTrue old.told → Leaves old new (Passing R s steps)
+  pub leaves : IsTrue old.told → Leaves old new (Passing R s (take begun steps))
+  pub still : begun ≡ 0 → Unchanged old new
   pub stays_on : new.off ≡ false → (new.armed ≡ fallen old.armed begun) × IsBefore begun old.armed
   pub went_off : old.off ≡ false → new.off ≡ true → WentOff R s steps begun old new
   pub stays_off : old.off ≡ true → (new.off ≡ true) × (new.armed ≡ old.armed) × (begun ≡ 0)
 
--- a call with no more to hand back
+-- Something else ended the call, after so many operations of the list that were all done.
+pub record Stopped {S : Type 0} (R : Reading S) (s : S) (steps : List S) (old new : Seen) : Type 0 where
+  pub done : ℕ
+  pub at_most : done ≤ length steps
+  pub ran : Ran R s (take done steps) old new
+
+-- what an error leaves, by whether it is the flash's
+pub record Halts {S : Type 0} (R : Reading S) (s : S) (steps : List S) (ByFlash : Type 0) (old new : Seen) : Type 0 where
+  pub by_flash : ByFlash → Broke R s steps old new
+  pub otherwise : ¬ ByFlash → Stopped R s steps old new
+
+-- a call that fails by the flash alone
 abbrev pub Runs : {S T E : Type 0} → Reading S → S → List S → Seen → Seen → Result T E → Type 0
 Runs R s steps old new result = MatchResult result (λ _. Ran R s steps old new) (λ _. Broke R s steps old new)
 
--- A call that hands on what it has: where each outcome keeps its flash, what the value at Ok keeps of the last state, and which errors are the flash's.
+-- A call that hands its flash on in what it answers: where the value and the error keep the flash, what the value keeps of the last state, and which errors are the flash's.
 abbrev pub Goes : {S T E : Type 0} → Reading S → S → List S → Seen → (T → Seen) → (E → Seen) → (T → S → Type 0) → (E → Type 0) → Result T E → Type 0
-Goes R s steps old ok err Kept OfFlash result = MatchResult result (λ t. Ran R s steps old (ok t) × Kept t (last_of s steps)) (λ e. OfFlash e → Broke R s steps old (err e))
+Goes R s steps old ok err Kept ByFlash result = MatchResult result (λ t. Ran R s steps old (ok t) × Kept t (last_of s steps)) (λ e. Halts R s steps (ByFlash e) old (err e))

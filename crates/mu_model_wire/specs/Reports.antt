@@ -1,6 +1,6 @@
 -- Sets of numbers below a bound, and the set that a report of missing blocks or chunks names.
 use Rattle.std.specs.Prelude.{ℕ, ◌≡◌, ◌<◌, ◌≤◌, ◌↔◌, ◌+◌, ◌*◌, ◌/◌, ◌%◌, Bool, true, false, IsTrue, not, ◌||◌, ◌==◌, nat_lt, List, [], ◌∷◌, length, map, filter, take, drop, replicate, slice_index, slice_index_or, Contains, Option, MatchOption, Ok, if◌then◌else◌}
-use Rattle.std.specs.List.{range_with_len}
+use Rattle.std.specs.List.{range_with_len, All as AllOf}
 use Rattle.std.specs.Int.{bit_at}
 use Rattle.mu_model_wire.specs.Patterns.{list_spelling, IsList, IsListFault}
 use Rattle.mu_model_wire.specs.Fields.{pattern, number, Shown}
@@ -74,6 +74,14 @@ Reports Nothing set = set ≡ no_number (length set)
 Reports (Bits octets) set = IsBitField octets.items set
 Reports (Listed numbers) set = (k : ℕ) → Contains numbers.items k ↔ IsTrue (has set k)
 
+-- A report names a set of numbers below n unless its bit field isn't as long as that of n numbers, a bit at or past n is
+-- set, or a listed number is n or more.
+abbrev pub NamesASet : Report → ℕ → Type 0
+NamesASet All n = Unit {0}
+NamesASet Nothing n = Unit {0}
+NamesASet (Bits octets) n = (length octets.items ≡ field_length n) × ((i : ℕ) → n ≤ i → field_bit octets.items i ≡ false)
+NamesASet (Listed numbers) n = AllOf (λ k. k < n) numbers.items
+
 -- the report of missing numbers: a bit field unless the list is strictly shorter (this profile)
 abbrev pub report_of : List Bool → Report
 report_of set =
@@ -87,6 +95,10 @@ report_of set =
 -- a report names at most one set below a bound
 abbrev pub ReportsNameOneSet : Type 0
 ReportsNameOneSet = (report : Report) (a b : List Bool) → length a ≡ length b → Reports report a → Reports report b → a ≡ b
+
+-- a report that names a set is as it must be to name one
+abbrev pub ReportsOfASetAreInOrder : Type 0
+ReportsOfASetAreInOrder = (report : Report) (set : List Bool) → Reports report set → NamesASet report (length set)
 
 -- the report of a set names it
 abbrev pub ReportOfASetNamesIt : Type 0

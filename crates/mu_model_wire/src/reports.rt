@@ -1,6 +1,6 @@
 //! What names a set of missing blocks or chunks on the wire.
 
-ghost use Rattle.mu_model_wire.specs.Reports.{ListsAreRead, ListsHaveNoFault, ListFaultsAreOne, GrammarReadsLists, GrammarRefusesLists};
+ghost use Rattle.mu_model_wire.specs.Reports.{ReportsNameOneSet, ReportsOfASetAreInOrder, ReportOfASetNamesIt, ListsAreRead, ListsHaveNoFault, ListFaultsAreOne, GrammarReadsLists, GrammarRefusesLists};
 
 use arrayvec::ArrayVec;
 
@@ -16,6 +16,13 @@ pub enum Report {
     /// The missing numbers.
     List(ArrayVec<u16, 374>),
 }
+
+/// A report names one set, and the report of a set names it.
+pub fn reports()
+    ensures one_set { ReportsNameOneSet }
+    ensures in_order { ReportsOfASetAreInOrder }
+    ensures of_a_set { ReportOfASetNamesIt }
+{}
 
 /// Octets are one list of patterns or have one fault, as the grammar reads them.
 pub fn lists()

@@ -1,1 +1,4 @@
 pub mod Lists
+pub mod Bits
+pub mod Masks
+pub mod Counts

@@ -2,6 +2,8 @@
 #![tactic(auto)]
 
 mod list;
+mod set;
 
 pub use list::{ListFault, decode_list, encode_list};
 pub use mu_model_wire::reports::Report;
+pub use set::NumberSet;

@@ -1,0 +1,4 @@
+pub mod Message
+pub mod Node
+pub mod Table
+pub mod Step

@@ -1,0 +1,246 @@
+-- An event that is read has its fields in their ranges.
+use Rattle.std.proofs.Common.{◌≡◌, ℕ, ◌⊎◌, Bool, true, false, List, [], ◌∷◌, length, Option, Some, None, Result, Ok, Err, cond, inl, inr, refl, subst, arith}
+use Rattle.std.specs.Prelude.{nat_eq, bytes_eq, nat_lt, nat_le, codes, ◌&&◌, ◌||◌}
+use Rattle.std.specs.Option.{option_map, option_and_then}
+use Rattle.hex.specs.Hex.{decode_of}
+use Rattle.hex.specs.declared.error.FromHexError.{FromHexError}
+use Rattle.hex.proofs.HexLemmas.{decode_of-ok}
+use Rattle.mu_model_script.specs.declared.LineFault.{LineFault}
+use Rattle.mu_model_script.specs.declared.LineWhy.TheVariants.{Long}
+use Rattle.mu_model_script.specs.Pieces.{Token, tokens_of, pieces}
+use Rattle.mu_model_script.specs.Tokens.{Content, Hex, Made, Kind, unicast, group_or_none, destination, number_in, octets_up_to, image, Value, Number, Octets, Image, value_of, if_address, address_of, is_unicast, is_group, number_of, octets_of, if_length, content_of, made_of, seed_and_size, hex_after, made_after, after_prefix}
+use Rattle.mu_model_script.specs.Event.{Event, Node, Say, Deliver, Active}
+use Rattle.mu_model_script.specs.Ranges.{IsWithin, IsUnicast, IsGroup, IsOctets, IsContent, IsInRange}
+use Rattle.mu_model_script.specs.Lines.{LineRow, node_row, say_row, deliver_row, active_row, line_rows, ◌>>=◌, or_refuse, refuse, Left, next_token, value_at, nothing_left, values_at, row_of, event_of, is_silent, some_event, line_event}
+use Rattle.mu_model_script.proofs.Numbers.{number_of-some}
+
+-- ---- steps
+
+bind_ok : {A B : Type 0} (r : Result A LineFault) (f : A → Result B LineFault) (y : B) → (r >>= f) ≡ Ok y → (x : A) × (r ≡ Ok x) × (f x ≡ Ok y)
+bind_ok (Ok x) f y h = (x, refl, h)
+bind_ok (Err e) f y h = cc h
+
+not_refused : {A : Type 0} (o : Option A) (at : ℕ) (x : A) → or_refuse o at ≡ Ok x → o ≡ Some x
+not_refused (Some y) at x h = cc h
+not_refused None at x h = cc h
+
+mapped : {A B : Type 0} (f : A → B) (o : Option A) (y : B) → option_map f o ≡ Some y → (x : A) × (o ≡ Some x) × (f x ≡ y)
+mapped f (Some x) y h = (x, refl, cc h)
+mapped f None y h = cc h
+
+-- ---- tokens
+
+abbrev IsSaid : Kind → Value → Type 0
+IsSaid unicast (Number address) = IsUnicast address
+IsSaid group_or_none (Number group) = (group ≡ 0) ⊎ IsGroup group
+IsSaid destination (Number address) = IsUnicast address ⊎ IsGroup address
+IsSaid (number_in least most) (Number n) = IsWithin least most n
+IsSaid (octets_up_to most) (Octets octets) = IsOctets most octets
+IsSaid image (Image content) = IsContent content
+IsSaid _ _ = ⊥
+
+abbrev tested : {A : Type 0} → Bool → A → Option A
+tested passes x = cond passes (Some x) None
+
+passed : {A : Type 0} (passes : Bool) (x y : A) → tested passes x ≡ Some y → (passes ≡ true) × (x ≡ y)
+passed true x y h = (refl, cc h)
+passed false x y h = cc h
+
+address_passed : (test : ℕ → Bool) (read : Option ℕ) (address : ℕ) → option_and_then (λ a. tested (test a) a) read ≡ Some address → test address ≡ true
+address_passed test (Some a) address h =
+    let p = passed (test a) a address h in
+    let P : ℕ → Type 0 = λ n. test n ≡ true in
+    subst P p.1 p.0
+address_passed test None address h = cc h
+
+unicast_is : (a : ℕ) → is_unicast a ≡ true → IsUnicast a
+unicast_is a h = (grind arith, grind arith)
+
+group_is : (a : ℕ) → is_group a ≡ true → IsGroup a
+group_is a h = (grind arith, grind arith)
+
+either : (p q : Bool) {P Q : Type 0} → (p ≡ true → P) → (q ≡ true → Q) → (p || q) ≡ true → P ⊎ Q
+either true q f g h = inl (f refl)
+either false q f g h = inr (g h)
+
+zero_is : (a : ℕ) → nat_eq a 0 ≡ true → a ≡ 0
+zero_is a h = grind arith
+
+octets_within : (most : ℕ) (text : List ℕ) (read : Result (List ℕ) FromHexError) (octets : List ℕ) → decode_of text ≡ read → if_length most read ≡ Some octets → IsOctets most octets
+octets_within most text (Ok found) octets is h =
+    let bytes = (decode_of-ok text found is).3 in
+    let p = passed (nat_le 1 (length found) && nat_le (length found) most) found octets h in
+    let fits : IsWithin 1 most (length found) = (grind (arith, p.0), grind (arith, p.0)) in
+    let P : List ℕ → Type 0 = IsOctets most in
+    subst P p.1 (fits, bytes)
+octets_within most text (Err e) octets is h = cc h
+
+octets_said : (most : ℕ) (text octets : List ℕ) → octets_of most text ≡ Some octets → IsOctets most octets
+octets_said most text octets h = octets_within most text (decode_of text) octets refl h
+
+number_said : (least most n : ℕ) (text : List ℕ) → number_of least most text ≡ Some n → IsWithin least most n
+number_said least most n text h = let read = number_of-some least most n text h in (read.2, read.3)
+
+made_from : (seed size : Option ℕ) (content : Content) → ((n : ℕ) → seed ≡ Some n → IsWithin 0 65535 n) → ((n : ℕ) → size ≡ Some n → IsWithin 1 1048576 n)
+    → seed_and_size seed size ≡ Some content → IsContent content
+made_from (Some seed) (Some size) content p q h =
+    let is : Made seed size ≡ content = cc h in
+    let P : Content → Type 0 = IsContent in
+    subst P is (p seed refl, q size refl)
+made_from (Some seed) None content p q h = cc h
+made_from None size content p q h = cc h
+
+made_said : (parts : List (List ℕ)) (content : Content) → made_of parts ≡ Some content → IsContent content
+made_said (seed ∷ size ∷ []) content h =
+    made_from (number_of 0 65535 seed) (number_of 1 1048576 size) content (λ n is. number_said 0 65535 n seed is) (λ n is. number_said 1 1048576 n size is) h
+made_said [] content h = cc h
+made_said (seed ∷ []) content h = cc h
+made_said (seed ∷ size ∷ more ∷ parts) content h = cc h
+
+made_after_said : (text : Option (List ℕ)) (content : Content) → made_after text ≡ Some content → IsContent content
+made_after_said (Some text) content h = made_said (pieces 58 text) content h
+made_after_said None content h = cc h
+
+hex_after_said : (text : Option (List ℕ)) (otherwise : Option Content) (content : Content) → (otherwise ≡ Some content → IsContent content)
+    → hex_after text otherwise ≡ Some content → IsContent content
+hex_after_said (Some text) otherwise content other h =
+    let m = mapped Hex (octets_of 1024 text) content h in
+    let P : Content → Type 0 = IsContent in
+    subst P m.2 (octets_said 1024 text m.0 m.1)
+hex_after_said None otherwise content other h = other h
+
+content_said : (text : List ℕ) (content : Content) → content_of text ≡ Some content → IsContent content
+content_said text content h =
+    let made = made_after (after_prefix (codes "made:") text) in
+    hex_after_said (after_prefix (codes "hex:") text) made content (made_after_said (after_prefix (codes "made:") text) content) h
+
+value_said : (kind : Kind) (text : List ℕ) (value : Value) → value_of kind text ≡ Some value → IsSaid kind value
+value_said unicast text value h =
+    let m = mapped Number (if_address is_unicast text) value h in
+    let P : Value → Type 0 = IsSaid unicast in
+    subst P m.2 (unicast_is m.0 (address_passed is_unicast (address_of text) m.0 m.1))
+value_said group_or_none text value h =
+    let m = mapped Number (if_address (λ a. nat_eq a 0 || is_group a) text) value h in
+    let P : Value → Type 0 = IsSaid group_or_none in
+    let test = address_passed (λ a. nat_eq a 0 || is_group a) (address_of text) m.0 m.1 in
+    subst P m.2 (either (nat_eq m.0 0) (is_group m.0) (zero_is m.0) (group_is m.0) test)
+value_said destination text value h =
+    let m = mapped Number (if_address (λ a. is_unicast a || is_group a) text) value h in
+    let P : Value → Type 0 = IsSaid destination in
+    let test = address_passed (λ a. is_unicast a || is_group a) (address_of text) m.0 m.1 in
+    subst P m.2 (either (is_unicast m.0) (is_group m.0) (unicast_is m.0) (group_is m.0) test)
+value_said (number_in least most) text value h =
+    let m = mapped Number (number_of least most text) value h in
+    let P : Value → Type 0 = IsSaid (number_in least most) in
+    subst P m.2 (number_said least most m.0 text m.1)
+value_said (octets_up_to most) text value h =
+    let m = mapped Octets (octets_of most text) value h in
+    let P : Value → Type 0 = IsSaid (octets_up_to most) in
+    subst P m.2 (octets_said most text m.0 m.1)
+value_said image text value h =
+    let m = mapped Image (content_of text) value h in
+    let P : Value → Type 0 = IsSaid image in
+    subst P m.2 (content_said text m.0 m.1)
+
+-- ---- rows
+
+value_at-said : (kind : Kind) (left : Left) (read : Value × Left) → value_at kind left ≡ Ok read → IsSaid kind read.0
+unfolding value_at
+value_at-said kind left read h =
+    let next = bind_ok (next_token left.tokens left.end) _ read h in
+    let value = bind_ok (or_refuse (value_of kind next.0.0.octets) next.0.0.at) _ read next.2 in
+    let P : Value × Left → Type 0 = λ r. IsSaid kind r.0 in
+    let is : (value.0, next.0.1) ≡ read = cc value.2 in
+    subst P is (value_said kind next.0.0.octets value.0 (not_refused (value_of kind next.0.0.octets) next.0.0.at value.0 value.1))
+
+abbrev AreSaid : List Kind → List Value → Type 0
+AreSaid [] [] = Unit {0}
+AreSaid (kind ∷ kinds) (value ∷ values) = IsSaid kind value × AreSaid kinds values
+AreSaid _ _ = ⊥
+
+none_said : (tokens : List Token) (values : List Value) → nothing_left tokens ≡ Ok values → AreSaid [] values
+none_said [] [] h = tt
+none_said [] (value ∷ values) h = cc h
+none_said (token ∷ tokens) values h = cc h
+
+values_said : (kinds : List Kind) (left : Left) (values : List Value) → values_at kinds left ≡ Ok values → AreSaid kinds values
+values_said [] left values h = none_said left.tokens values h
+values_said (kind ∷ kinds) left values h =
+    let first = bind_ok (value_at kind left) _ values h in
+    let others = bind_ok (values_at kinds first.0.1) _ values first.2 in
+    let is : (first.0.0 ∷ others.0) ≡ values = cc others.2 in
+    let P : List Value → Type 0 = AreSaid (kind ∷ kinds) in
+    subst P is (value_at-said kind left first.0 first.1, values_said kinds first.0.1 others.0 others.1)
+
+-- what a row says of values of its kinds is in range
+abbrev SaysInRange : LineRow → Type 0
+SaysInRange row = (values : List Value) (event : Event) → AreSaid row.kinds values → row.event values ≡ Some event → IsInRange event
+
+node_says : SaysInRange node_row
+node_says (Number address ∷ Number group ∷ Number pages ∷ Number version ∷ Image content ∷ []) event said h =
+    let is : Node address group pages version content ≡ event = cc h in
+    let P : Event → Type 0 = IsInRange in
+    subst P is (said.0, said.1.0, said.1.1.0, said.1.1.1.0, said.1.1.1.1.0)
+node_says _ event said h = cc h
+
+say_says : SaysInRange say_row
+say_says (Number from ∷ Number to ∷ Octets payload ∷ []) event said h =
+    let is : Say from to payload ≡ event = cc h in
+    let P : Event → Type 0 = IsInRange in
+    subst P is (said.0, said.1.0, said.1.1.0)
+say_says _ event said h = cc h
+
+deliver_says : SaysInRange deliver_row
+deliver_says (Number packet ∷ Number address ∷ []) event said h =
+    let is : Deliver packet address ≡ event = cc h in
+    let P : Event → Type 0 = IsInRange in
+    subst P is (said.0, said.1.0)
+deliver_says _ event said h = cc h
+
+active_says : SaysInRange active_row
+active_says (Number address ∷ []) event said h =
+    let is : Active address ≡ event = cc h in
+    let P : Event → Type 0 = IsInRange in
+    subst P is said.0
+active_says _ event said h = cc h
+
+abbrev EveryRow : (LineRow → Type 0) → List LineRow → Type 0
+EveryRow P [] = Unit {0}
+EveryRow P (row ∷ rows) = P row × EveryRow P rows
+
+row_of-every : (P : LineRow → Type 0) (rows : List LineRow) (word : List ℕ) (row : LineRow) → EveryRow P rows → row_of rows word ≡ Some row → P row
+row_of-every P [] word row every h = cc h
+row_of-every P (first ∷ rows) word row every h =
+    let Q : Bool → Type 0 = λ t. cond t (Some first) (row_of rows word) ≡ Some row → P row in
+    elim (bytes_eq word first.word) as Q [
+      | true ↦ λ is. subst P (let e : first ≡ row = cc is in e) every.0
+      | false ↦ λ is. row_of-every P rows word row every.1 is
+    ] h
+
+every_row : EveryRow SaysInRange line_rows
+every_row = (node_says, (say_says, (deliver_says, (active_says, tt))))
+
+event_of-in_range : (left : Left) (event : Event) → event_of line_rows left ≡ Ok event → IsInRange event
+event_of-in_range left event h =
+    let word = bind_ok (next_token left.tokens left.end) _ event h in
+    let row = bind_ok (or_refuse (row_of line_rows word.0.0.octets) word.0.0.at) _ event word.2 in
+    let values = bind_ok (values_at row.0.kinds word.0.1) _ event row.2 in
+    let says = row_of-every SaysInRange line_rows word.0.0.octets row.0 every_row (not_refused (row_of line_rows word.0.0.octets) word.0.0.at row.0 row.1) in
+    says values.0 event (values_said row.0.kinds word.0.1 values.0 values.1) (not_refused (row.0.event values.0) word.0.1.end event values.2)
+
+some_event-ok : (read : Result Event LineFault) (event : Event) → some_event read ≡ Ok (Some event) → read ≡ Ok event
+some_event-ok (Ok found) event h = cc h
+some_event-ok (Err e) event h = cc h
+
+pub line_event-in_range : (line : List ℕ) (event : Event) → line_event line ≡ Ok (Some event) → IsInRange event
+line_event-in_range line event h =
+    let left : Left = record { tokens = tokens_of line; end = length line } in
+    let Short : Bool → Type 0 = λ t. cond t (refuse 4096 Long) (cond (is_silent line) (Ok None) (some_event (event_of line_rows left))) ≡ Ok (Some event) → IsInRange event in
+    let Silent : Bool → Type 0 = λ t. cond t (Ok None) (some_event (event_of line_rows left)) ≡ Ok (Some event) → IsInRange event in
+    elim (nat_lt 4096 (length line)) as Short [
+      | true ↦ λ is. cc is
+      | false ↦ elim (is_silent line) as Silent [
+        | true ↦ λ is. cc is
+        | false ↦ λ is. event_of-in_range left event (some_event-ok (event_of line_rows left) event is)
+      ]
+    ] h

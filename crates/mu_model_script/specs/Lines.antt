@@ -1,0 +1,125 @@
+-- The lines of a script as a table, and the one reading of it (this profile).
+use Rattle.std.specs.Prelude.{ℕ, ◌==◌, nat_lt, Bool, true, List, [], ◌∷◌, length, codes, bytes_eq, Option, Some, None, Result, Ok, Err, if◌then◌else◌}
+use Rattle.mu_model_script.specs.declared.LineWhy.{LineWhy}
+use Rattle.mu_model_script.specs.declared.LineWhy.TheVariants.{Token as BadToken, Long}
+use Rattle.mu_model_script.specs.declared.LineFault.{LineFault}
+use Rattle.mu_model_script.specs.Pieces.{Token, tokens_of}
+use Rattle.mu_model_script.specs.Tokens.{Kind, unicast, group_or_none, destination, number_in, octets_up_to, image, Value, Number, Octets, Image, value_of}
+use Rattle.mu_model_script.specs.Event.{Event, Node, Say, Deliver, Active}
+
+-- a line's word, the kinds of the tokens behind it, and what it makes happen
+pub record LineRow : Type 0 where
+  pub word : List ℕ
+  pub kinds : List Kind
+  pub event : List Value → Option Event
+
+abbrev pub node_event : List Value → Option Event
+node_event (Number address ∷ Number group ∷ Number pages ∷ Number version ∷ Image content ∷ []) = Some (Node address group pages version content)
+node_event _ = None
+
+abbrev pub say_event : List Value → Option Event
+say_event (Number from ∷ Number to ∷ Octets payload ∷ []) = Some (Say from to payload)
+say_event _ = None
+
+abbrev pub deliver_event : List Value → Option Event
+deliver_event (Number packet ∷ Number address ∷ []) = Some (Deliver packet address)
+deliver_event _ = None
+
+abbrev pub active_event : List Value → Option Event
+active_event (Number address ∷ []) = Some (Active address)
+active_event _ = None
+
+-- node A G PAGES VERSION CONTENT
+abbrev pub node_row : LineRow
+node_row = record { word = codes "node"; kinds = unicast ∷ group_or_none ∷ number_in 1 256 ∷ number_in 0 4294967295 ∷ image ∷ []; event = node_event }
+
+-- say F T HEX
+abbrev pub say_row : LineRow
+say_row = record { word = codes "say"; kinds = unicast ∷ destination ∷ octets_up_to 380 ∷ []; event = say_event }
+
+-- deliver K A
+abbrev pub deliver_row : LineRow
+deliver_row = record { word = codes "deliver"; kinds = number_in 0 4294967295 ∷ unicast ∷ []; event = deliver_event }
+
+-- active A
+abbrev pub active_row : LineRow
+active_row = record { word = codes "active"; kinds = unicast ∷ []; event = active_event }
+
+abbrev pub line_rows : List LineRow
+line_rows = node_row ∷ say_row ∷ deliver_row ∷ active_row ∷ []
+
+-- ---- reading
+
+abbrev pub refuse : {A : Type 0} → ℕ → LineWhy → Result A LineFault
+refuse at why = Err (record { at = at; why = why })
+
+infixl 10 ◌>>=◌
+abbrev pub ◌>>=◌ : {A B : Type 0} → Result A LineFault → (A → Result B LineFault) → Result B LineFault
+(Ok x) >>= f = f x
+(Err e) >>= f = Err e
+
+abbrev pub or_refuse : {A : Type 0} → Option A → ℕ → Result A LineFault
+or_refuse (Some x) at = Ok x
+or_refuse None at = refuse at BadToken
+
+-- the tokens that are left to read, and the line's length
+pub record Left : Type 0 where
+  pub tokens : List Token
+  pub end : ℕ
+
+-- the next token, or the line's length as the place where it lacks
+abbrev pub next_token : List Token → ℕ → Result (Token × Left) LineFault
+next_token [] end = refuse end BadToken
+next_token (token ∷ tokens) end = Ok (token, record { tokens = tokens; end = end })
+
+-- what the next token says
+unfoldable pub value_at : Kind → Left → Result (Value × Left) LineFault
+value_at kind left = do
+  next ← next_token left.tokens left.end
+  value ← or_refuse (value_of kind next.0.octets) next.0.at
+  Ok (value, next.1)
+
+-- that no token is left
+abbrev pub nothing_left : List Token → Result (List Value) LineFault
+nothing_left [] = Ok []
+nothing_left (token ∷ tokens) = refuse token.at BadToken
+
+-- what the tokens say, or the first place that isn't as the kinds ask
+abbrev pub values_at : List Kind → Left → Result (List Value) LineFault
+values_at [] left = nothing_left left.tokens
+values_at (kind ∷ kinds) left = do
+  value ← value_at kind left
+  values ← values_at kinds value.1
+  Ok (value.0 ∷ values)
+
+abbrev pub row_of : List LineRow → List ℕ → Option LineRow
+row_of [] word = None
+row_of (row ∷ rows) word = if bytes_eq word row.word then Some row else row_of rows word
+
+abbrev pub event_by : LineRow → Left → Result Event LineFault
+event_by row left = do
+  values ← values_at row.kinds left
+  or_refuse (row.event values) left.end
+
+-- the row is that of the first token
+abbrev pub event_of : List LineRow → Left → Result Event LineFault
+event_of rows left = do
+  word ← next_token left.tokens left.end
+  row ← or_refuse (row_of rows word.0.octets) word.0.at
+  event_by row word.1
+
+-- a line that says nothing: an empty one, or a comment
+abbrev pub is_silent : List ℕ → Bool
+is_silent [] = true
+is_silent (octet ∷ octets) = octet == 35
+
+abbrev pub some_event : Result Event LineFault → Result (Option Event) LineFault
+some_event (Ok event) = Ok (Some event)
+some_event (Err e) = Err e
+
+-- what a line says: nothing, an event, or the first place that is wrong
+abbrev pub line_event : List ℕ → Result (Option Event) LineFault
+line_event line =
+    if nat_lt 4096 (length line) then refuse 4096 Long
+    else if is_silent line then Ok None
+    else some_event (event_of line_rows (record { tokens = tokens_of line; end = length line }))

@@ -1,0 +1,28 @@
+-- What holds of every event that a line of a script says: its fields are in their ranges (this profile).
+use Rattle.std.specs.Prelude.{◌≡◌, ℕ, ◌≤◌, ◌⊎◌, List, length}
+use Rattle.hex.specs.Hex.{IsBytes}
+use Rattle.mu_model_script.specs.Tokens.{Content, Hex, Made}
+use Rattle.mu_model_script.specs.Event.{Event, Node, Say, Deliver, Active}
+
+abbrev pub IsWithin : ℕ → ℕ → ℕ → Type 0
+IsWithin least most n = (least ≤ n) × (n ≤ most)
+
+abbrev pub IsUnicast : ℕ → Type 0
+IsUnicast address = IsWithin 0x0001 0x7FFF address
+
+abbrev pub IsGroup : ℕ → Type 0
+IsGroup address = IsWithin 0xC000 0xFFFF address
+
+-- 1 to so many octets
+abbrev pub IsOctets : ℕ → List ℕ → Type 0
+IsOctets most octets = IsWithin 1 most (length octets) × IsBytes octets
+
+abbrev pub IsContent : Content → Type 0
+IsContent (Hex octets) = IsOctets 1024 octets
+IsContent (Made seed size) = IsWithin 0 65535 seed × IsWithin 1 1048576 size
+
+abbrev pub IsInRange : Event → Type 0
+IsInRange (Node address group pages version content) = IsUnicast address × ((group ≡ 0) ⊎ IsGroup group) × IsWithin 1 256 pages × IsWithin 0 4294967295 version × IsContent content
+IsInRange (Say from to payload) = IsUnicast from × (IsUnicast to ⊎ IsGroup to) × IsOctets 380 payload
+IsInRange (Deliver packet address) = IsWithin 0 4294967295 packet × IsUnicast address
+IsInRange (Active address) = IsUnicast address

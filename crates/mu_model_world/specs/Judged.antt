@@ -1,0 +1,78 @@
+-- What stands against a line of a script in a world.
+use Rattle.std.specs.Prelude.{ℕ, ◌*◌, ◌<◌, nat_lt, nat_le, ◌||◌, Bool, true, false, List, [], ◌∷◌, length, is_some, slice_get, Option, Some, None, Result, Ok, Err, if◌then◌else◌}
+use Rattle.mu_model_wire.specs.Packet.{Packet}
+use Rattle.mu_model_node.specs.Node.{page_octets, is_addressee}
+use Rattle.mu_model_script.specs.declared.LineFault.{LineFault}
+use Rattle.mu_model_script.specs.declared.BadWhy.{BadWhy}
+use Rattle.mu_model_script.specs.declared.BadWhy.TheVariants.{Token as BadToken, Member as BadMember, Packet as BadPacket, Premise}
+use Rattle.mu_model_script.specs.Pieces.{Token, tokens_of}
+use Rattle.mu_model_script.specs.Event.{Event, Node, Say, Deliver, Active}
+use Rattle.mu_model_script.specs.Lines.{line_event}
+use Rattle.mu_model_script.specs.Texts.{line_word, bad_word}
+use Rattle.mu_model_world.specs.World.{Member, World, member_at, config_of}
+use Rattle.mu_model_world.specs.Outcomes.{content_octets}
+
+-- members of a script
+abbrev pub most_members : ℕ
+most_members = 32
+
+-- the number of the token that shows it, counted from the line's word, and the reason
+pub record Objection : Type 0 where
+  pub token : ℕ
+  pub why : BadWhy
+
+abbrev pub against : ℕ → BadWhy → Option Objection
+against token why = Some (record { token = token; why = why })
+
+-- a member line comes before all others, for at most 32 members of different addresses
+abbrev pub against_member : World → ℕ → Option Objection
+against_member w address =
+    if w.begun || nat_le most_members (length w.members) then against 0 BadMember
+    else if is_some (member_at w address) then against 1 BadMember
+    else None
+
+abbrev pub or_else : Option Objection → Option Objection → Option Objection
+or_else (Some objection) otherwise = Some objection
+or_else None otherwise = otherwise
+
+abbrev pub against_addressee : ℕ → Member → Option Packet → Option Objection
+against_addressee address m (Some packet) = if is_addressee (config_of address m) packet then None else against 2 BadPacket
+against_addressee address m None = against 1 BadPacket
+
+abbrev pub against_delivery : ℕ → Option Packet → Option Member → Option Objection
+against_delivery address packet (Some m) = against_addressee address m packet
+against_delivery address packet None = against 2 BadMember
+
+-- what stands first against an event, in the order of the reasons and of the tokens
+abbrev pub objection : World → Event → Option Objection
+objection w (Node address group pages version content) =
+    or_else (against_member w address)
+    (if nat_lt (page_octets * pages) (length (content_octets content)) then against 5 BadToken else None)
+-- a stranger's packet comes from no member
+objection w (Say from to payload) = if is_some (member_at w from) then against 1 Premise else None
+objection w (Deliver number address) = against_delivery address (slice_get w.bag number) (member_at w address)
+objection w (Active address) = if is_some (member_at w address) then None else against 1 BadMember
+
+-- what a line comes to
+pub data Judged : Type 0 where
+  -- an empty line or a comment
+  Silent : Judged
+  -- the place of the first octet of the token that shows it, and the word for why
+  Refused : (place : ℕ) (word : List ℕ) → Judged
+  Sound : Event → Judged
+
+abbrev pub place_at : Option Token → ℕ
+place_at (Some token) = token.at
+place_at None = 0
+
+abbrev pub judged_event : List ℕ → Event → Option Objection → Judged
+judged_event line event None = Sound event
+judged_event line event (Some o) = Refused (place_at (slice_get (tokens_of line) o.token)) (bad_word o.why)
+
+abbrev pub judged_by : World → List ℕ → Result (Option Event) LineFault → Judged
+judged_by w line (Ok None) = Silent
+judged_by w line (Ok (Some event)) = judged_event line event (objection w event)
+judged_by w line (Err fault) = Refused fault.at (line_word fault.why)
+
+abbrev pub judged : World → List ℕ → Judged
+judged w line = judged_by w line (line_event line)

@@ -1,0 +1,4 @@
+pub mod World
+pub mod Outcomes
+pub mod Judged
+pub mod Run

@@ -1,0 +1,4 @@
+pub mod Bytes
+pub mod FaultyFlash
+pub mod Memory
+pub mod Stream

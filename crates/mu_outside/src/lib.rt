@@ -1,0 +1,33 @@
+//! What lies outside the program: inputs, outputs, flashes, links and clocks, as traits, and such objects in memory.
+#![tactic(auto)]
+
+mod bytes_sink;
+mod bytes_source;
+mod calls;
+mod cells;
+mod clock;
+mod cut;
+mod faulty;
+mod flash;
+mod link;
+mod memory;
+mod ram;
+mod sink;
+mod source;
+
+pub use bytes_sink::BytesSink;
+pub use bytes_source::BytesSource;
+pub use clock::Clock;
+pub use cut::CutFlash;
+pub use faulty::FaultyFlash;
+pub use flash::{Flash, Plug};
+pub use link::{Incoming, Link};
+pub use mu_model_flash::{Failed, Pattern};
+pub use ram::RamFlash;
+pub use sink::Sink;
+pub use source::Source;
+
+#[cfg(test)]
+mod flash_tests;
+#[cfg(test)]
+mod stream_tests;

@@ -1,0 +1,142 @@
+ghost use Rattle.std.specs.Prelude.{◌≡◌, ◌≤◌, ◌<◌, ◌+◌, ◌*◌, ℕ, Bool, List, true, false, length, slice_set, IfSome};
+ghost use Rattle.mu_model_wire.specs.Reports.{has, members, no_number, complement, union, IsFirstFrom};
+ghost use Rattle.mu_report.specs.Words.{AreBitsBelow, word_bit, count_below};
+
+use std::marker::Model;
+
+/// A set of numbers below a bound, which is at most 2,048.
+#[derive(Drop)]
+pub struct NumberSet {
+    // Number `k` is bit `k % 64` of word `k / 64`. Bits at and past the bound are 0.
+    words: [u64; 32],
+    bound: u16,
+}
+
+impl Model for NumberSet {
+    ghost use Rattle.std.specs.Prelude.{Bool, List};
+    ghost use Rattle.mu_report.specs.Words.{set_of_words, AreWords};
+
+    ghost Value = { List Bool };
+
+    ghost view = { λ set. set_of_words set.words set.bound };
+
+    ghost invariant = { λ set. AreWords set.words set.bound };
+}
+
+// The bits of those numbers of word `index` that are below `k`.
+fn bits_below(k: u16, index: usize) -> u64
+    requires { index < 32 }
+    ensures { AreBitsBelow k index result }
+{
+    let begin = 64 * index as u16;
+    if k >= begin + 64 {
+        u64::MAX
+    } else if k <= begin {
+        0
+    } else {
+        (1 << (k - begin)) - 1
+    }
+}
+
+// How many bits of the words are 1.
+fn ones(words: &[u64]) -> u16
+    requires { length words.now ≤ 32 }
+    ensures { result ≡ count_below (word_bit words.now) (64 * length words.now) }
+{
+    let mut count = 0;
+    for word in words {
+        count += word.count_ones() as u16;
+    }
+    count
+}
+
+impl NumberSet {
+    /// The empty set of numbers below `n`.
+    pub fn new(n: u16) -> NumberSet
+        requires { n ≤ 2048 }
+        ensures { result ≡ no_number n }
+    {
+        NumberSet {
+            words: [0; 32],
+            bound: n,
+        }
+    }
+
+    /// The bound: every number of the set is below it.
+    pub fn bound(&self) -> u16
+        ensures bound { result ≡ length self.now }
+        ensures most { result ≤ 2048 }
+    {
+        self.bound
+    }
+
+    /// Adds a number.
+    pub fn insert(&mut self, k: u16)
+        requires { k < length self.old }
+        ensures { self.new ≡ slice_set self.old k true }
+    {
+        self.words[k as usize / 64] |= 1 << (k % 64);
+    }
+
+    /// Takes a number out, and changes nothing where it isn't there.
+    pub fn remove(&mut self, k: u16)
+        ensures { self.new ≡ slice_set self.old k false }
+    {
+        if k < self.bound {
+            self.words[k as usize / 64] &= !(1 << (k % 64));
+        }
+    }
+
+    /// Whether a number is in the set.
+    pub fn contains(&self, k: u16) -> bool
+        ensures { result ≡ has self.now k }
+    {
+        k < self.bound && (self.words[k as usize / 64] >> (k % 64)) & 1 == 1
+    }
+
+    /// How many numbers are in the set.
+    pub fn count(&self) -> u16
+        ensures count { result ≡ length (members self.now) }
+        ensures most { result ≤ length self.now }
+    {
+        ones(&self.words)
+    }
+
+    /// The numbers below the bound that aren't in the set.
+    pub fn missing(&self) -> NumberSet
+        ensures { result ≡ complement self.now }
+    {
+        let mut words = [0; 32];
+        for index in 0..32 {
+            words[index] = !self.words[index] & bits_below(self.bound, index);
+        }
+        NumberSet {
+            words,
+            bound: self.bound,
+        }
+    }
+
+    /// Adds the numbers of another set with the same bound.
+    pub fn union_with(&mut self, other: &NumberSet)
+        requires { length self.old ≡ length other.now }
+        ensures { self.new ≡ union self.old other.now }
+    {
+        for index in 0..32 {
+            self.words[index] |= other.words[index];
+        }
+    }
+
+    /// The least number of the set that is `k` or more.
+    pub fn first_from(&self, k: u16) -> Option<u16>
+        ensures first { IsFirstFrom self.now k result }
+        ensures within { IfSome result (λ number. number < length self.now) }
+    {
+        for index in k as usize / 64..32 {
+            let word = self.words[index] & !bits_below(k, index);
+            if word != 0 {
+                return Some(64 * index as u16 + word.trailing_zeros() as u16);
+            }
+        }
+        None
+    }
+}

@@ -1,0 +1,40 @@
+use arrayvec::ArrayVec;
+use mu_codec::Payload;
+
+/// An image as a script gives it.
+#[derive(Debug, Drop)]
+pub enum Content {
+    /// Its octets, 1 to 1,024.
+    Hex(ArrayVec<u8, 1024>),
+    /// So many octets, 1 to 1,048,576, as the seed makes them.
+    Made { seed: u16, size: u32 },
+}
+
+/// What a line of a script makes happen.
+#[derive(Debug, Drop)]
+pub enum Event {
+    /// A node at a unicast address, in a group or in none (0), whose banks have so many pages (1 to 256), with its
+    /// first image and that image's version.
+    Node {
+        addr: u16,
+        group: u16,
+        pages: u16,
+        version: u32,
+        content: Content,
+    },
+    /// A stranger sends a packet of 1 to 380 octets from a unicast address to a unicast address or a group.
+    Say {
+        from: u16,
+        to: u16,
+        payload: Payload,
+    },
+    /// A packet, by its number, comes to the member at a unicast address.
+    Deliver {
+        packet: u32,
+        addr: u16,
+    },
+    /// Shows the active image of the node at a unicast address.
+    Active {
+        addr: u16,
+    },
+}

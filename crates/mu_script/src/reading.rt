@@ -1,0 +1,116 @@
+ghost use Rattle.std.specs.Prelude.{◌≡◌, IfOk, IfSome};
+ghost use Rattle.std.specs.Option.{option_map};
+ghost use Rattle.mu_model_script.specs.Lines.{row_of, line_rows, node_row, say_row, deliver_row, active_row, event_by, line_event};
+ghost use Rattle.mu_model_script.specs.Ranges.{IsInRange};
+ghost use Rattle.mu_script.specs.Cursor.{Gives};
+ghost use Rattle.mu_script.specs.View.{event};
+ghost use Rattle.mu_script.specs.Words.{row};
+
+use crate::cursor::Tokens;
+use crate::events::Event;
+use mu_model_script::{LineFault, LineWhy};
+
+/// The first token of a line.
+enum Word {
+    Node,
+    Say,
+    Deliver,
+    Active,
+}
+
+fn known_word(octets: &[u8]) -> Option<Word>
+    ensures { option_map row result ≡ row_of line_rows octets.now }
+{
+    if octets == b"node".as_slice() {
+        Some(Word::Node)
+    } else if octets == b"say".as_slice() {
+        Some(Word::Say)
+    } else if octets == b"deliver".as_slice() {
+        Some(Word::Deliver)
+    } else if octets == b"active".as_slice() {
+        Some(Word::Active)
+    } else {
+        None
+    }
+}
+
+fn node(mut tokens: Tokens) -> Result<Event, LineFault>
+    ensures { Gives event result (event_by node_row tokens.entry) }
+{
+    let addr = tokens.unicast()?;
+    let group = tokens.group_or_none()?;
+    let pages = tokens.number(1, 256)?;
+    let version = tokens.number(0, u32::MAX)?;
+    let content = tokens.image()?;
+    tokens.end()?;
+    Ok(Event::Node {
+        addr,
+        group,
+        pages: pages as u16,
+        version,
+        content,
+    })
+}
+
+fn say(mut tokens: Tokens) -> Result<Event, LineFault>
+    ensures { Gives event result (event_by say_row tokens.entry) }
+{
+    let from = tokens.unicast()?;
+    let to = tokens.destination()?;
+    let payload = tokens.octets_up_to()?;
+    tokens.end()?;
+    Ok(Event::Say { from, to, payload })
+}
+
+fn deliver(mut tokens: Tokens) -> Result<Event, LineFault>
+    ensures { Gives event result (event_by deliver_row tokens.entry) }
+{
+    let packet = tokens.number(0, u32::MAX)?;
+    let addr = tokens.unicast()?;
+    tokens.end()?;
+    Ok(Event::Deliver { packet, addr })
+}
+
+fn active(mut tokens: Tokens) -> Result<Event, LineFault>
+    ensures { Gives event result (event_by active_row tokens.entry) }
+{
+    let addr = tokens.unicast()?;
+    tokens.end()?;
+    Ok(Event::Active { addr })
+}
+
+fn event_by_word(word: Word, tokens: Tokens) -> Result<Event, LineFault>
+    ensures { Gives event result (event_by (row word) tokens.entry) }
+{
+    match word {
+        Word::Node => node(tokens),
+        Word::Say => say(tokens),
+        Word::Deliver => deliver(tokens),
+        Word::Active => active(tokens),
+    }
+}
+
+/// What a line of a script makes happen, without its LF: nothing where it is empty or a comment. Refused are, at the
+/// first place that shows it, a line that is longer than 4,096 octets, one that isn't of a form of the script's lines,
+/// and a number that is out of its range.
+pub fn read_line(line: &[u8]) -> Result<Option<Event>, LineFault>
+    ensures reads { Gives (λ e. option_map event e) result (line_event line.now) }
+    ensures in_range { IfOk result (λ read. IfSome read (λ e. IsInRange (event e))) }
+{
+    if line.len() > 4096 {
+        return Err(LineFault {
+            at: 4096,
+            why: LineWhy::Long,
+        });
+    }
+    if line.is_empty() || line[0] == b'#' {
+        return Ok(None);
+    }
+    let mut tokens = Tokens::new(line);
+    let first = tokens.next()?;
+    let Some(word) = known_word(first.octets) else {
+        return Err(first.fault());
+    };
+    let event = event_by_word(word, tokens)?;
+    Ok(Some(event))
+}

@@ -1,0 +1,6 @@
+pub mod Told
+pub mod Requests
+pub mod Events
+pub mod WordLists
+pub mod Cuts
+pub mod Places

@@ -1,0 +1,52 @@
+-- Facts about what is told before and after calls, and about answers.
+use Rattle.std.proofs.Common.{◌≡◌, ℕ, ◌+◌, ◌-◌, ◌++◌, [], length, length-drop, arith, take, drop, sym, ap, ◌∙◌, append_assoc, take-add, List, Option, Some, None, Result, Ok, Err, refl, subst}
+use Rattle.std.proofs.lemmas.List.{take_all}
+use Rattle.std.specs.Prelude.{IfSome}
+use Rattle.std.specs.Result.{OnOk}
+use Rattle.mu_outside.specs.Stream.{WriteTakes, KeepsTold}
+use Rattle.mu_top.specs.Reading.{WhereTold, Wrote, WroteSome}
+
+-- before any call
+pub told_self : (o : Option (List ℕ)) (P : List ℕ → List ℕ → Type 0) → ((v : List ℕ) → P v v) → WhereTold o o P
+told_self None P p = tt
+told_self (Some v) P p = (v, refl, p v)
+
+-- what follows from two facts that hold at Ok
+pub on_ok_both : {T E : Type 0} (r : Result T E) (P Q R : Type 0) → (P → Q → R) → OnOk r P → OnOk r Q → OnOk r R
+on_ok_both (Ok x) P Q R f p q = f p q
+on_ok_both (Err e) P Q R f p q = tt
+
+-- what holds of the value that is there
+pub if_some_at : {T : Type 0} (o : Option T) (x : T) (P : T → Type 0) → o ≡ Some x → IfSome o P → P x
+if_some_at None x P is p = absurd cc
+if_some_at (Some y) x P is p =
+    let same : y ≡ x = cc in
+    subst P same p
+
+-- what follows from a fact about what is told
+pub where_told : (o n : Option (List ℕ)) (P Q : List ℕ → List ℕ → Type 0) → ((before after : List ℕ) → P before after → Q before after) → WhereTold o n P → WhereTold o n Q
+where_told o None P Q f h = tt
+where_told o (Some after) P Q f h = (h.0, h.1, f h.0 after h.2)
+
+-- two calls, one after the other
+pub told_then : (o m n : Option (List ℕ)) (P Q R : List ℕ → List ℕ → Type 0) → ((before middle after : List ℕ) → P before middle → Q middle after → R before after)
+    → WhereTold o m P → WhereTold m n Q → WhereTold o n R
+told_then o m None P Q R f p q = tt
+told_then o None (Some after) P Q R f p q =
+    let impossible : None ≡ Some q.0 = q.1 in
+    absurd cc
+told_then o (Some middle) (Some after) P Q R f p q =
+    let same : middle ≡ q.0 = cc in
+    (p.0, p.1, f p.0 middle after p.2 (subst (λ m. Q m after) (sym same) q.2))
+
+-- a piece more was written
+wrote_on : (o m n : Option (List ℕ)) (xs : List ℕ) (d k : ℕ) → Wrote o m (take d xs) → WriteTakes m n (drop d xs) k → Wrote o n (take (d + k) xs)
+wrote_on o m n xs d k first more = told_then o m n _ (λ middle after. after ≡ middle ++ take k (drop d xs)) _ (λ before middle after p q.
+    q ∙ (ap (λ t. t ++ take k (drop d xs)) p ∙ (append_assoc before (take d xs) (take k (drop d xs)) ∙ ap (λ t. before ++ t) (sym (take-add d k xs))))) first more
+
+-- the rest of a piece, as a slice
+drop-whole : (xs : List ℕ) (d : ℕ) → take (length xs - d) (drop d xs) ≡ drop d xs
+drop-whole xs d = take_all (length xs - d) (drop d xs) (omega (arith, length-drop d xs))
+
+pub wrote_more : (o m n : Option (List ℕ)) (xs : List ℕ) (d k : ℕ) → Wrote o m (take d xs) → WriteTakes m n (take (length xs - d) (drop d xs)) k → Wrote o n (take (d + k) xs)
+wrote_more o m n xs d k first more = wrote_on o m n xs d k first (subst (λ rest. WriteTakes m n rest k) (drop-whole xs d) more)

@@ -1,0 +1,7 @@
+pub mod Reading
+pub mod Grammar
+pub mod Moved
+pub mod Words
+pub mod Status
+pub mod Replay
+pub mod LineDone

@@ -1,0 +1,45 @@
+-- The words of a command line, and what they ask for (this profile).
+use Rattle.std.specs.Prelude.{ℕ, ◌&&◌, nat_le, List, [], ◌∷◌, ◌++◌, length, sum_by, take, drop, slice_get, codes, bytes_eq, Option, Some, None, if◌then◌else◌}
+use Rattle.mu_top.specs.declared.words.Command.{Command as HeldCommand}
+use Rattle.mu_top.specs.declared.words.Command.TheVariants.{Replay as HeldReplay}
+
+-- words of these lengths, one behind the other
+abbrev pub words_of : List ℕ → List ℕ → List (List ℕ)
+words_of [] octets = []
+words_of (length ∷ lengths) octets = take length octets ∷ words_of lengths (drop length octets)
+
+-- there are at most 32 words, of 8,192 octets in all
+abbrev pub if_few : List (List ℕ) → Option (List (List ℕ))
+if_few words = if nat_le (length words) 32 && nat_le (sum_by length words) 8192 then Some words else None
+
+-- a word more; none is an overfull list
+abbrev pub with_word : Option (List (List ℕ)) → List ℕ → Option (List (List ℕ))
+with_word None word = None
+with_word (Some words) word = if_few (words ++ word ∷ [])
+
+abbrev pub word_at : Option (List (List ℕ)) → ℕ → Option (List ℕ)
+word_at None place = None
+word_at (Some words) place = slice_get words place
+
+-- ---- commands
+
+pub data Command : Type 0 where
+  -- the script that the source gives is run
+  Replay : Command
+
+abbrev pub command : HeldCommand → Command
+command HeldReplay = Replay
+
+-- replay, without keys
+abbrev pub replay_of : List (List ℕ) → Option Command
+replay_of [] = Some Replay
+replay_of (key ∷ keys) = None
+
+-- the first word is the command, the others are its keys
+abbrev pub command_by : List (List ℕ) → Option Command
+command_by [] = None
+command_by (word ∷ keys) = if bytes_eq word (codes "replay") then replay_of keys else None
+
+abbrev pub command_of : Option (List (List ℕ)) → Option Command
+command_of None = None
+command_of (Some words) = command_by words

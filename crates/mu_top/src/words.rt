@@ -1,0 +1,162 @@
+ghost use Rattle.std.specs.Prelude.{◌≡◌, [], Some};
+ghost use Rattle.std.specs.Option.{option_copied, option_map};
+ghost use Rattle.mu_top.specs.Words.{with_word, word_at, command, command_of};
+
+use arrayvec::ArrayVec;
+use std::marker::Model;
+
+/// The words of a command line: at most 32 words of 8,192 octets in all. With more it is overfull.
+#[derive(Drop)]
+pub struct WordList {
+    octets: ArrayVec<u8, 8192>,
+    lengths: ArrayVec<u16, 32>,
+    overfull: bool,
+}
+
+impl Model for WordList {
+    ghost use Rattle.std.specs.Prelude.{◌≡◌, ℕ, List, length, sum, Option, Some, None, if◌then◌else◌};
+    ghost use Rattle.mu_top.specs.Words.{words_of};
+
+    ghost Value = { Option (List (List ℕ)) };
+
+    ghost view = { λ w. if w.overfull then None else Some (words_of w.lengths.items w.octets.items) };
+
+    ghost invariant = { λ w. sum w.lengths.items ≡ length w.octets.items };
+}
+
+impl WordList {
+    /// No words.
+    pub fn new() -> WordList
+        ensures { result ≡ Some [] }
+    {
+        WordList {
+            octets: ArrayVec::new(),
+            lengths: ArrayVec::new(),
+            overfull: false,
+        }
+    }
+
+    /// Appends a word. Where there would be more than 32 words, or more than 8,192 octets in all, the list is overfull
+    /// from then on.
+    pub fn add(&mut self, word: &str)
+        ensures { self.new ≡ with_word self.old word.now }
+    {
+        let octets = word.as_bytes();
+        if self.lengths.is_full() {
+            self.overfull = true;
+            return;
+        }
+        if self.octets.try_extend_from_slice(octets).is_err() {
+            self.overfull = true;
+            return;
+        }
+        self.lengths.push(octets.len() as u16);
+    }
+
+    /// The octets of the word at this place, from 0: none where there are fewer words, or the list is overfull.
+    pub fn word(&self, place: usize) -> Option<&[u8]>
+        ensures { option_copied result ≡ word_at self.now place }
+    {
+        if self.overfull {
+            return None;
+        }
+        let mut octets = self.octets.as_slice();
+        for (k, length) in self.lengths.as_slice().iter().enumerate() {
+            let (word, rest) = octets.split_at(*length as usize);
+            if k == place {
+                return Some(word);
+            }
+            octets = rest;
+        }
+        None
+    }
+}
+
+/// What a command line asks for.
+#[derive(Clone, Copy, Debug, PartialEq, Eq)]
+pub enum Command {
+    /// Runs the script that the source gives.
+    Replay,
+}
+
+/// The command that the words spell: none where the list is overfull, or where they aren't in the grammar of commands.
+pub fn read_words(words: &WordList) -> Option<Command>
+    ensures { option_map command result ≡ command_of words.now }
+{
+    let word = words.word(0)?;
+    if word == b"replay".as_slice() && words.word(1).is_none() {
+        return Some(Command::Replay);
+    }
+    None
+}
+
+#[cfg(test)]
+mod tests {
+    use super::*;
+    use std::test::Fail;
+
+    fn is_word(words: &WordList, place: usize, word: &[u8]) -> bool {
+        match words.word(place) {
+            Some(octets) => octets == word,
+            None => false,
+        }
+    }
+
+    fn is_unknown(word: &str) -> bool {
+        let mut words = WordList::new();
+        words.add(word);
+        read_words(&words).is_none()
+    }
+
+    #[test]
+    fn commands_are_read(rt: HostRuntime) {
+        let mut words = WordList::new();
+        assert_eq!(rt; read_words(&words), None);
+        words.add("replay");
+        assert_eq!(rt; read_words(&words), Some(Command::Replay));
+        words.add("seed=1");
+        assert_eq!(rt; read_words(&words), None);
+        assert!(rt; is_word(&words, 0, b"replay"));
+        assert!(rt; is_word(&words, 1, b"seed=1"));
+        assert_eq!(rt; words.word(2), None);
+        assert!(rt; is_unknown(""));
+        assert!(rt; is_unknown("Replay"));
+        assert!(rt; is_unknown("replay "));
+        assert!(rt; is_unknown("repla"));
+        assert!(rt; is_unknown("rerun"));
+    }
+
+    #[test]
+    fn a_list_has_at_most_32_words(rt: HostRuntime) {
+        let mut words = WordList::new();
+        for _ in 0..32 {
+            words.add("replay");
+        }
+        assert!(rt; is_word(&words, 31, b"replay"));
+        words.add("");
+        assert_eq!(rt; words.word(0), None);
+        assert_eq!(rt; read_words(&words), None);
+        words.add("replay");
+        assert_eq!(rt; read_words(&words), None);
+    }
+
+    #[test]
+    fn a_list_has_at_most_8192_octets(rt: HostRuntime) -> Result<(), Fail> {
+        let mut long = String::new(rt.alloc());
+        for _ in 0..8185 {
+            long.push('a')?;
+        }
+        let mut words = WordList::new();
+        words.add("replay");
+        words.add(long.as_str());
+        words.add("b");
+        assert!(rt; is_word(&words, 2, b"b"));
+        words.add("c");
+        assert_eq!(rt; words.word(0), None);
+        long.push_str("aaaaaaaa")?;
+        let mut words = WordList::new();
+        words.add(long.as_str());
+        assert_eq!(rt; words.word(0), None);
+        Ok(())
+    }
+}
