@@ -39,7 +39,7 @@ row_back shown = record {
   image_index = value_of index shown;
 }
 
-abbrev back : Message → DistMsg
+abbrev pub back : Message → DistMsg
 back m =
     cond (eqb m.opcode 0x8311) (ReceiversAdd (record { items = map pair_back m.entries }))
     (cond (eqb m.opcode 0x8312) ReceiversDeleteAll
@@ -162,7 +162,7 @@ upload_back s p r k f =
     (split kind ∙ rw (number_other progress kind r refl, number_same kind k, no_number kind f, or_none k) refl)
     (ap lent_there os ∙ lent_again f)
 
-back_view : (m : DistMsg) → IsEven m → back (view m) ≡ content m
+pub back_view : (m : DistMsg) → IsEven m → back (view m) ≡ content m
 back_view (ReceiversAdd es) even = ap (λ (items : List (ℕ × ℕ)). ReceiversAdd (record { items = items })) (pairs_again es.items)
 back_view ReceiversDeleteAll even = refl
 back_view (ReceiversStatus s c) even = refl
