@@ -168,6 +168,15 @@ small_part set j =
     let most = pow-le-pow_right {n = 2} (lit≤ tt) short in
     omega arith
 
+pub field_small : (set : List Bool) (i : ℕ) → get_or (bit_field set) i 0 < 2 ^ 8
+field_small set i =
+    let f : ℕ → ℕ = λ j. number_of_bits (take 8 (drop (8 * j) set)) in
+    let n = field_length (length set) in
+    elim (cases_lt i n) [
+      inl h ↦ omega (arith, get_or-map-range_with_len f 0 n i i 0 h (omega arith), small_part set i)
+    | inr h ↦ (let long = length-map-range_with_len f 0 n in omega (arith, get_or_past (bit_field set) i 0 (omega arith)))
+    ]
+
 -- ---- the laws
 
 same_bool : (a b : Bool) → (IsTrue a → IsTrue b) → (IsTrue b → IsTrue a) → a ≡ b
