@@ -1,18 +1,15 @@
 -- Sets, bit fields and what reports name.
-use Rattle.std.proofs.Common.{◌≡◌, ℕ, zero, suc, ◌-◌, ◌+◌, ◌*◌, ◌/◌, ◌%◌, ◌^◌, ◌≤◌, ◌<◌, ◌↔◌, Bool, true, false, IsTrue, cond, eqb, ltb, get_or, replicate, List, [], ◌∷◌, ◌++◌, length, take, drop, map, lit≤, if◌then◌else◌, refl, sym, ap, subst, ◌∙◌, arith, ◌⊎◌, inl, inr, add-one, length-append, length-drop}
+use Rattle.std.proofs.Common.{◌≡◌, ℕ, zero, suc, ◌+◌, ◌*◌, ◌/◌, ◌%◌, ◌^◌, ◌≤◌, ◌<◌, ◌↔◌, Bool, true, false, IsTrue, cond, eqb, get_or, List, [], ◌∷◌, ◌++◌, length, take, drop, lit≤, if◌then◌else◌, refl, sym, ap, subst, ◌∙◌, arith, inl, inr, add-one, length-append}
 use Rattle.std.specs.Prelude.{Contains}
-use Rattle.std.specs.List.{range_with_len, filter, All as AllOf}
+use Rattle.std.specs.List.{range_with_len, filter}
 use Rattle.std.specs.Int.{bit_at}
-use Rattle.arrayvec.specs.ArrayVec.{ArrayVec}
 use Rattle.std.proofs.Math.Nat.{pow-suc, pow-le-pow_right}
-use Rattle.std.proofs.lemmas.Bool.{cases_lt, cases_Bool, lt-ltb, le-ltb, eqb-true, eqb-false, false≢true}
+use Rattle.std.proofs.lemmas.Bool.{cases_lt, cases_Bool, eqb-true, false≢true}
 use Rattle.std.proofs.lemmas.List.{map-id, append-nil, get_or_past, get_or-take, get_or-drop, get_or-replicate, length-replicate, ext_get_or, length-take}
 use Rattle.std.proofs.lemmas.List.Elements.{All-from_get_or, Contains-get_or, Contains-append_left, Contains-push, Contains-push_cases}
 use Rattle.std.proofs.lemmas.List.FromFn.{filter_of_map_range_with_len_more, length-map-range_with_len, get_or-map-range_with_len}
-use Rattle.std.proofs.lemmas.Nat.Bits.{bit_at-zero, bit_at-suc, bit_at_lowest, bit_at-lt, same_from_bits_below}
-use Rattle.mu_model_wire.specs.Patterns.{list_spelling}
-use Rattle.mu_model_wire.specs.Reports.{has, members, no_number, every_number, field_bit, field_length, IsBitField, number_of_bits, bit_field, Reports, NamesASet, report_of, ReportsNameOneSet, ReportsOfASetAreInOrder, ReportOfASetNamesIt}
-use Rattle.mu_model_wire.specs.declared.reports.Report.{Report}
+use Rattle.std.proofs.lemmas.Nat.Bits.{bit_at-zero, bit_at-suc, bit_at_lowest}
+use Rattle.mu_model_wire.specs.Reports.{has, members, no_number, every_number, field_length, IsBitField, number_of_bits, bit_field, Reports, ReportsNameOneSet, ReportsOfASetAreInOrder, ReportOfASetNamesIt}
 use Rattle.mu_model_wire.specs.declared.reports.Report.TheVariants.{All, Nothing, Bits, List as Listed}
 
 pub same_sets : (a b : List Bool) → length a ≡ length b → ((k : ℕ) → has a k ≡ has b k) → a ≡ b
@@ -63,8 +60,8 @@ all_pass p (suc n) e k h =
     let before = counted_le p n in
     let here = one_or_none (p n) in
     elim (cases_lt k n) [
-      inl less ↦ all_pass p n (omega arith) k less
-    | inr last ↦ (let same : n ≡ k = omega arith in ap p (sym same) ∙ was_one (p n) (omega arith))
+      | inl less ↦ all_pass p n (omega arith) k less
+      | inr last ↦ (let same : n ≡ k = omega arith in ap p (sym same) ∙ was_one (p n) (omega arith))
     ]
 
 none_pass : (p : ℕ → Bool) (n : ℕ) → counted p n ≡ 0 → (k : ℕ) → k < n → p k ≡ false
@@ -72,8 +69,8 @@ none_pass p zero e k h = absurd (omega arith)
 none_pass p (suc n) e k h =
     let more = counted_more p n in
     elim (cases_lt k n) [
-      inl less ↦ none_pass p n (omega arith) k less
-    | inr last ↦ (let same : n ≡ k = omega arith in ap p (sym same) ∙ was_none (p n) (omega arith))
+      | inl less ↦ none_pass p n (omega arith) k less
+      | inr last ↦ (let same : n ≡ k = omega arith in ap p (sym same) ∙ was_none (p n) (omega arith))
     ]
 
 -- a number is among those below n that pass exactly where it passes
@@ -84,11 +81,11 @@ contained p (suc n) k h pass =
     ap (λ (m : ℕ). filter p (range_with_len 0 m)) (sym (add-one n)) ∙ filter_more p n in
     let P : List ℕ → Type 0 = λ xs. Contains xs k in
     subst P (sym whole) (elim (cases_lt k n) [
-      inl less ↦ Contains-append_left (filter p (range_with_len 0 n)) (cond (p n) (n ∷ []) []) k (contained p n k less pass)
-    | inr last ↦ (
-      let same : k ≡ n = omega arith in
-      let one : cond (p n) (n ∷ []) [] ≡ k ∷ [] = ap (λ (b : Bool). cond b (n ∷ []) []) (ap p (sym same) ∙ pass) ∙ ap (λ (m : ℕ). m ∷ []) (sym same) in
-      subst P (ap (λ (xs : List ℕ). filter p (range_with_len 0 n) ++ xs) (sym one)) (Contains-push (filter p (range_with_len 0 n)) k))
+      | inl less ↦ Contains-append_left (filter p (range_with_len 0 n)) (cond (p n) (n ∷ []) []) k (contained p n k less pass)
+      | inr last ↦ (
+          let same : k ≡ n = omega arith in
+          let one : cond (p n) (n ∷ []) [] ≡ k ∷ [] = ap (λ (b : Bool). cond b (n ∷ []) []) (ap p (sym same) ∙ pass) ∙ ap (λ (m : ℕ). m ∷ []) (sym same) in
+          subst P (ap (λ (xs : List ℕ). filter p (range_with_len 0 n) ++ xs) (sym one)) (Contains-push (filter p (range_with_len 0 n)) k))
     ])
 
 passes : (p : ℕ → Bool) (n k : ℕ) → Contains (filter p (range_with_len 0 n)) k → (k < n) × (p k ≡ true)
@@ -98,15 +95,15 @@ passes p (suc n) k h =
     ap (λ (m : ℕ). filter p (range_with_len 0 m)) (sym (add-one n)) ∙ filter_more p n in
     let P : List ℕ → Type 0 = λ xs. Contains xs k in
     elim (cases_Bool (p n)) [
-      inl one ↦ (
-        let parts = subst P (whole ∙ ap (λ (b : Bool). filter p (range_with_len 0 n) ++ cond b (n ∷ []) []) one) h in
-        elim (Contains-push_cases (filter p (range_with_len 0 n)) n k parts) [
-          inl before ↦ (let g = passes p n k before in (omega (arith, g.0), g.1))
-        | inr same ↦ (omega (arith, same), ap p (sym same) ∙ one)
-        ])
-    | inr none ↦ (
-        let parts = subst P (whole ∙ ap (λ (b : Bool). filter p (range_with_len 0 n) ++ cond b (n ∷ []) []) none ∙ append-nil (filter p (range_with_len 0 n))) h in
-        let g = passes p n k parts in (omega (arith, g.0), g.1))
+      | inl one ↦ (
+          let parts = subst P (whole ∙ ap (λ (b : Bool). filter p (range_with_len 0 n) ++ cond b (n ∷ []) []) one) h in
+          elim (Contains-push_cases (filter p (range_with_len 0 n)) n k parts) [
+            | inl before ↦ (let g = passes p n k before in (omega (arith, g.0), g.1))
+            | inr same ↦ (omega (arith, same), ap p (sym same) ∙ one)
+          ])
+      | inr none ↦ (
+          let parts = subst P (whole ∙ ap (λ (b : Bool). filter p (range_with_len 0 n) ++ cond b (n ∷ []) []) none ∙ append-nil (filter p (range_with_len 0 n))) h in
+          let g = passes p n k parts in (omega (arith, g.0), g.1))
     ]
 
 has_past : (set : List Bool) (k : ℕ) → length set ≤ k → has set k ≡ false
@@ -148,7 +145,7 @@ field_of_set set =
     record {
       count = length-map-range_with_len f 0 n;
       bits = λ i. elim (cases_lt (i / 8) n) [
-          inl inside ↦ (
+        | inl inside ↦ (
             let octet : get_or (bit_field set) (i / 8) 0 ≡ f (i / 8) = get_or-map-range_with_len f 0 n (i / 8) (i / 8) 0 inside (omega arith) in
             let place : 8 * (i / 8) + i % 8 ≡ i = omega arith in
             ap (λ (m : ℕ). eqb (bit_at m (i % 8)) 1) octet ∙ bit_of_number (take 8 (drop (8 * (i / 8)) set)) (i % 8)
@@ -157,7 +154,7 @@ field_of_set set =
             let long = length-map-range_with_len f 0 n in
             let none : get_or (bit_field set) (i / 8) 0 ≡ 0 = get_or_past (bit_field set) (i / 8) 0 (omega arith) in
             ap (λ (m : ℕ). eqb (bit_at m (i % 8)) 1) none ∙ ap (λ (m : ℕ). eqb m 1) (bit_at-zero (i % 8)) ∙ sym (has_past set i (omega arith)))
-        ];
+      ];
     }
 
 small_part : (set : List Bool) (j : ℕ) → number_of_bits (take 8 (drop (8 * j) set)) < 2 ^ 8
@@ -173,8 +170,8 @@ field_small set i =
     let f : ℕ → ℕ = λ j. number_of_bits (take 8 (drop (8 * j) set)) in
     let n = field_length (length set) in
     elim (cases_lt i n) [
-      inl h ↦ omega (arith, get_or-map-range_with_len f 0 n i i 0 h (omega arith), small_part set i)
-    | inr h ↦ (let long = length-map-range_with_len f 0 n in omega (arith, get_or_past (bit_field set) i 0 (omega arith)))
+      | inl h ↦ omega (arith, get_or-map-range_with_len f 0 n i i 0 h (omega arith), small_part set i)
+      | inr h ↦ (let long = length-map-range_with_len f 0 n in omega (arith, get_or_past (bit_field set) i 0 (omega arith)))
     ]
 
 -- ---- the laws

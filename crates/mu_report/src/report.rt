@@ -1,7 +1,7 @@
 ghost use Rattle.std.specs.Prelude.{◌≡◌, ◌≤◌, ◌↔◌, Bool, List, Some, IsSome, length};
 ghost use Rattle.mu_model_wire.specs.Reports.{Reports, NamesASet, report_of};
 
-use crate::NumberSet;
+use crate::set::{NumberSet, field_length};
 use mu_model_wire::reports::Report;
 
 /// The report of a set of missing numbers, whose bound is at least 1: that all are missing, that
@@ -18,7 +18,7 @@ pub fn report_of(set: &NumberSet) -> Report
     if count == 0 {
         return Report::Nothing;
     }
-    if set.spelled_length() < bound.div_ceil(8) {
+    if set.spelled_length() < field_length(bound) {
         Report::List(set.numbers())
     } else {
         Report::Bits(set.bit_field())
@@ -35,7 +35,7 @@ pub fn read_report(report: &Report, n: u16) -> Option<NumberSet>
     match report {
         Report::All => Some(NumberSet::new(n).missing()),
         Report::Nothing => Some(NumberSet::new(n)),
-        Report::Bits(octets) => NumberSet::of_bit_field(octets.as_slice(), n),
-        Report::List(numbers) => NumberSet::of_numbers(numbers.as_slice(), n),
+        Report::Bits(octets) => NumberSet::from_bit_field(octets.as_slice(), n),
+        Report::List(numbers) => NumberSet::from_numbers(numbers.as_slice(), n),
     }
 }

@@ -26,6 +26,13 @@ impl Model for NumberSet {
     ghost invariant = { λ set. AreWords set.words set.bound };
 }
 
+// How many octets the bit field of `n` numbers has.
+pub(crate) fn field_length(n: u16) -> u16
+    ensures { result ≡ field_length n }
+{
+    n.div_ceil(8)
+}
+
 // The bits of those numbers of word `index` that are below `k`.
 fn bits_below(k: u16, index: usize) -> u64
     requires { index < 32 }
@@ -206,7 +213,7 @@ impl NumberSet {
     {
         let mut octets = [0; 256];
         LittleEndian::write_u64_into(&self.words, &mut octets);
-        let (used, _) = octets.split_at((self.bound as usize + 7) / 8);
+        let (used, _) = octets.split_at(field_length(self.bound) as usize);
         let mut field = ArrayVec::new();
         if field.try_extend_from_slice(used).is_err() {
             prove!(false);
@@ -215,12 +222,12 @@ impl NumberSet {
     }
 
     // The set of a bit field, if it is one of numbers below `n`.
-    pub(crate) fn of_bit_field(octets: &[u8], n: u16) -> Option<NumberSet>
+    pub(crate) fn from_bit_field(octets: &[u8], n: u16) -> Option<NumberSet>
         requires { n ≤ 2048 }
         ensures names { IfSome result (λ set. (length set ≡ n) × IsBitField octets.now set) }
         ensures some { IsSome result ↔ ((length octets.now ≡ field_length n) × ((i : ℕ) → n ≤ i → field_bit octets.now i ≡ false)) }
     {
-        if octets.len() != (n as usize + 7) / 8 {
+        if octets.len() != field_length(n) as usize {
             return None;
         }
         let words = words_of(octets);
@@ -231,7 +238,7 @@ impl NumberSet {
     }
 
     // The set of listed numbers, if they are below `n`.
-    pub(crate) fn of_numbers(numbers: &[u16], n: u16) -> Option<NumberSet>
+    pub(crate) fn from_numbers(numbers: &[u16], n: u16) -> Option<NumberSet>
         requires { n ≤ 2048 }
         ensures names { IfSome result (λ set. (length set ≡ n) × ((k : ℕ) → Contains numbers.now k ↔ IsTrue (has set k))) }
         ensures some { IsSome result ↔ All (λ k. k < n) numbers.now }

@@ -1,5 +1,5 @@
 use Rattle.mu_report.proofs.Listing.{gather}
-use Rattle.mu_report.proofs.set.NumberSet.of_numbers.Goals as goal
+use Rattle.mu_report.proofs.set.NumberSet.from_numbers.Goals as goal
 
 pub loop-number-preserved : goal.loop-number-preserved
 loop-number-preserved c =
