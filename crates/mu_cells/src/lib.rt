@@ -1,0 +1,2 @@
+//! Control pages, slots and marks on a flash.
+#![tactic(auto)]

@@ -1,0 +1,3 @@
+pub mod CodeBits
+pub mod CodeLemmas
+pub mod PageLemmas
