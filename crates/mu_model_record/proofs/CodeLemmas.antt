@@ -1,9 +1,8 @@
 -- Coded lists, and what a torn erase or program makes of them.
-use Rattle.std.proofs.Common.{◌≡◌, ◌⊎◌, inl, inr, ⊎_elim, ℕ, zero, suc, ◌+◌, ◌-◌, ◌*◌, ◌<◌, ◌≤◌, ◌==◌, cond, Bool, true, false, List, [], ◌∷◌, ◌++◌, length, take, drop, get_or, refl, sym, ◌∙◌, ap, subst, arith, append_assoc, length-append, eq-eqb}
-use Rattle.std.proofs.lemmas.Bool.{cases_eq, ne_eqb}
+use Rattle.std.proofs.Common.{◌≡◌, ◌⊎◌, inl, inr, ⊎_elim, ℕ, zero, suc, ◌+◌, ◌-◌, ◌*◌, ◌<◌, List, [], ◌∷◌, ◌++◌, length, take, drop, get_or, refl, sym, ◌∙◌, ap, subst, arith, append_assoc}
+use Rattle.std.proofs.lemmas.Bool.{cases_eq}
 use Rattle.std.proofs.lemmas.List.{take_more, take_more_set}
 use Rattle.std.proofs.Math.ListN.{set, length-set}
-use Rattle.std.specs.Int.{bit_at}
 use Rattle.mu_model_flash.specs.Bits.{AreOctets, IsMixOf}
 use Rattle.mu_model_record.specs.Code.{coded, content_of, IsCodeWord, HasPairOfOnes, IsSafe, Fades}
 use Rattle.mu_model_record.proofs.CodeBits.{pair_or_ones, ones_stay, never_pair}
@@ -155,3 +154,36 @@ pub take-coded : (xs : List ℕ) (n : ℕ) → take (2 * n) (coded xs) ≡ coded
 take-coded xs zero = refl
 take-coded [] (suc n) = let e : 2 * suc n ≡ suc (suc (2 * n)) = omega arith in ap (λ (k : ℕ). take k (coded [])) e
 take-coded (x ∷ xs) (suc n) = let e : 2 * suc n ≡ suc (suc (2 * n)) = omega arith in ap (λ (k : ℕ). take k (coded (x ∷ xs))) e ∙ ap (λ (l : List ℕ). x ∷ (255 - x) ∷ l) (take-coded xs n)
+
+-- a part of a code word that begins and ends at even places
+pub drop_code : (word : List ℕ) (n : ℕ) → IsCodeWord word → IsCodeWord (drop (2 * n) word)
+drop_code word zero is = is
+drop_code [] (suc n) is = let e : 2 * suc n ≡ suc (suc (2 * n)) = omega arith in subst (λ (k : ℕ). IsCodeWord (drop k [])) (sym e) tt
+drop_code (x ∷ []) (suc n) is = absurd is
+drop_code (x ∷ y ∷ rest) (suc n) is = let e : 2 * suc n ≡ suc (suc (2 * n)) = omega arith in subst (λ (k : ℕ). IsCodeWord (drop k (x ∷ y ∷ rest))) (sym e) (drop_code rest n is.1)
+
+pub take_code : (word : List ℕ) (n : ℕ) → IsCodeWord word → IsCodeWord (take (2 * n) word)
+take_code word zero is = tt
+take_code [] (suc n) is = let e : 2 * suc n ≡ suc (suc (2 * n)) = omega arith in subst (λ (k : ℕ). IsCodeWord (take k [])) (sym e) tt
+take_code (x ∷ []) (suc n) is = absurd is
+take_code (x ∷ y ∷ rest) (suc n) is = let e : 2 * suc n ≡ suc (suc (2 * n)) = omega arith in subst (λ (k : ℕ). IsCodeWord (take k (x ∷ y ∷ rest))) (sym e) (is.0, take_code rest n is.1)
+
+-- a pair of ones in a part
+pub drop_ones : (word : List ℕ) (n : ℕ) → HasPairOfOnes (drop (2 * n) word) → HasPairOfOnes word
+drop_ones word zero has = has
+drop_ones [] (suc n) has = let e : 2 * suc n ≡ suc (suc (2 * n)) = omega arith in absurd (subst (λ (k : ℕ). HasPairOfOnes (drop k [])) e has)
+drop_ones (x ∷ []) (suc n) has =
+    let e : 2 * suc n ≡ suc (suc (2 * n)) = omega arith in
+    absurd (none (2 * n) (subst (λ (k : ℕ). HasPairOfOnes (drop k (x ∷ []))) e has))
+  where
+    none : (k : ℕ) → HasPairOfOnes (drop (suc k) []) → ⊥
+    none k h = h
+drop_ones (x ∷ y ∷ rest) (suc n) has = let e : 2 * suc n ≡ suc (suc (2 * n)) = omega arith in inr (drop_ones rest n (subst (λ (k : ℕ). HasPairOfOnes (drop k (x ∷ y ∷ rest))) e has))
+
+pub take_ones : (n : ℕ) (word : List ℕ) → HasPairOfOnes (take n word) → HasPairOfOnes word
+take_ones zero word has = absurd has
+take_ones (suc n) [] has = absurd has
+take_ones (suc zero) (x ∷ word) has = absurd has
+take_ones (suc (suc n)) (x ∷ []) has = absurd has
+take_ones (suc (suc n)) (x ∷ y ∷ rest) (inl here) = inl here
+take_ones (suc (suc n)) (x ∷ y ∷ rest) (inr there) = inr (take_ones n rest there)

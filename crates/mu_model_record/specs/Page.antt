@@ -1,7 +1,7 @@
 -- Control pages: four slots of 1,024 octets, and the words that they hold (this profile).
 use Rattle.std.specs.Prelude.{◌≡◌, ◌≢◌, ◌⊎◌, ℕ, ◌+◌, ◌*◌, ◌<◌, List, slice_index}
-use Rattle.mu_model_flash.specs.Bits.{part_of}
-use Rattle.mu_model_record.specs.Code.{IsCodeWord, content_of, HasPairOfOnes, IsSafe, Fades}
+use Rattle.mu_model_flash.specs.Bits.{blank, part_of}
+use Rattle.mu_model_record.specs.Code.{coded, IsCodeWord, content_of, HasPairOfOnes, IsSafe, Fades}
 
 -- the octets of a page of a flash
 abbrev pub page_of : List ℕ → ℕ → List ℕ
@@ -52,3 +52,14 @@ pub record PageFades (old new : List ℕ) : Type 0 where
   pub first : Fades (slot_in old 0) (slot_in new 0)
   pub if_long : IsCodeWord (slot_in old 0) → IsLong old → Fades old new
   pub if_short : IsCodeWord (slot_in old 0) → ¬ IsLong old → (k : ℕ) → k < 4 → Fades (slot_in old k) (slot_in new k)
+
+-- A slot may be written where it reads FF: slot 0 where the slots after it do too, another where the page isn't long.
+pub record CanWriteSlot (page : List ℕ) (k : ℕ) : Type 0 where
+  pub few : k < 4
+  pub if_first : k ≡ 0 → (j : ℕ) → 0 < j → j < 4 → slot_in page j ≡ blank 1024
+  pub if_later : 0 < k → IsCodeWord (slot_in page 0) → ¬ IsLong page
+
+-- what may be left of a page of which a slot is being written
+pub record SlotChanges (old new : List ℕ) (k : ℕ) (octets : List ℕ) : Type 0 where
+  pub others : (j : ℕ) → j < 4 → j ≢ k → slot_in new j ≡ slot_in old j
+  pub this_one : HasPairOfOnes (slot_in new k) ⊎ (slot_in new k ≡ coded octets)
