@@ -26,6 +26,13 @@ raised_part old new at n within torn =
     let low : i < n = omega (arith, lt, here) in
     mix_at _ _ _ _ _ _ (sym (get-part old at n i low)) (get-blank (length old) (at + i) (omega (arith, low, within))) (get-part new at n i low) (torn.bits (at + i)))
 
+-- a program of a code word that is cut short
+pub torn_code : (word got : List ℕ) → IsCodeWord word → Between (blank (length word)) word got → (got ≡ word) ⊎ HasPairOfOnes got
+torn_code word got is torn = raised_code word got is (raised_between word got swapped)
+  where
+    swapped : Between word (blank (length word)) got
+    swapped = record { size = torn.size ∙ length-blank (length word); bits = λ i. mix_swap _ _ _ (torn.bits i) }
+
 pub torn_erase : (old new : List ℕ) → length old ≡ 4096 → IsSafePage old → Between old (blank 4096) new → PageFades old new
 torn_erase old new size safe torn =
     let t : Between old (blank (length old)) new = subst (λ (n : ℕ). Between old (blank n) new) (sym size) torn in
