@@ -1,0 +1,5 @@
+use Rattle.mu_cells.proofs.TurnLemmas.{erase_runs}
+use Rattle.mu_cells.proofs.page.erase_page.Goals as goal
+
+pub returns-clause-cuts : goal.returns-clause-cuts
+returns-clause-cuts g c safe = erase_runs _ (g.met.F.Flash.sound c.args.flash.now) _ c.erase.result c.args.page c.requires.within safe c.erase.ensures.runs
