@@ -1,12 +1,14 @@
 // What stands for a flash, a link and a clock where a command has none.
 ghost use Rattle.std.specs.Prelude.{◌≡◌, ◌^◌, ◌<◌};
-ghost use Rattle.std.proofs.Common.{lit<};
 
 use mu_outside::{Clock, Failed, Flash, Incoming, Link};
 
 /// A flash without pages, whose calls all fail.
 #[derive(Drop)]
 pub struct NoFlash {
+    /// None, as `new` makes it.
+    pages: u32,
+    ghost few_pages: { pages < 2 ^ 32 },
     /// How many calls have failed, which stays at 2^64 - 1.
     faults: u64,
     ghost counted: { faults < 2 ^ 64 },
@@ -15,21 +17,25 @@ pub struct NoFlash {
 impl NoFlash {
     /// No call has failed.
     pub fn new() -> NoFlash
-        ensures { result.faults ≡ 0 }
+        ensures pages { result.pages ≡ 0 }
+        ensures faults { result.faults ≡ 0 }
     {
-        NoFlash { faults: 0 }
+        NoFlash {
+            pages: 0,
+            faults: 0,
+        }
     }
 }
 
 impl Flash for NoFlash {
     ghost use Rattle.mu_model_flash.specs.Flash.{untold, untold_is_sound};
 
-    ghost seen = { λ flash. untold 0 flash.faults };
+    ghost seen = { λ flash. untold flash.pages flash.faults };
 
-    ghost sound = { λ flash. untold_is_sound 0 flash.faults (lit< tt) flash.counted };
+    ghost sound = { λ flash. untold_is_sound flash.pages flash.faults flash.few_pages flash.counted };
 
     fn pages(&self) -> u32 {
-        0
+        self.pages
     }
 
     fn read(&mut self, _at: u32, _out: &mut [u8]) -> Result<(), Failed> {
