@@ -3,6 +3,8 @@
 
 mod absent;
 mod standard;
+#[cfg(test)]
+mod tests;
 
 use absent::{NoClock, NoFlash, NoLink};
 use mu_top::{Ended, Status, WordList, top};
