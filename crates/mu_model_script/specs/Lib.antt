@@ -3,6 +3,7 @@ pub mod Tokens
 pub mod Event
 pub mod Lines
 pub mod Limits
+pub mod Runs
 pub mod Texts
 pub mod Ranges
 pub mod Laws

@@ -29,13 +29,20 @@ lines_in octets input =
 abbrev pub lines_within : List ℕ → List (List ℕ)
 lines_within input = lines_in most_octets input
 
--- the lines that are done one after the other, up to the first that is refused
-abbrev pub lines_done : List ℕ → List (List ℕ)
-lines_done input = take most_lines (lines_within input)
+-- the lines that are done one after the other, up to the first that is refused, where so many lines may come
+abbrev pub first_lines : (most : ℕ) → List ℕ → List (List ℕ)
+first_lines most input = take most (lines_within input)
 
 -- a limit is passed, behind those lines
+abbrev pub Passes : (most : ℕ) → List ℕ → Type 0
+Passes most input = (most_octets < length input) ⊎ (most < length (lines_within input))
+
+-- the same of a script
+abbrev pub lines_done : List ℕ → List (List ℕ)
+lines_done input = first_lines most_lines input
+
 abbrev pub IsPast : List ℕ → Type 0
-IsPast input = (most_octets < length input) ⊎ (most_lines < length (lines_within input))
+IsPast input = Passes most_lines input
 
 -- the pieces but for the last: the lines that LF has ended
 abbrev pub without_last : List (List ℕ) → List (List ℕ)

@@ -1,5 +1,6 @@
 -- Whole runs: one world after each line, each got from the last by a move, and the texts joined.
-use Rattle.std.specs.Prelude.{ℕ, ◌≡◌, ◌+◌, List, [], ◌∷◌, ◌++◌, length}
+use Rattle.std.specs.Prelude.{ℕ, ◌≡◌, List, []}
+use Rattle.mu_model_script.specs.Runs as runs
 use Rattle.mu_model_world.specs.World.{World, new_world}
 use Rattle.mu_model_world.specs.Outcomes.{Moves}
 use Rattle.mu_model_world.specs.Judged.{Judged, Silent, Refused, Sound, judged}
@@ -14,25 +15,18 @@ IsDone w (Sound event) text next = Moves w event text next
 pub record Step (w : World) (line text : List ℕ) (next : World) : Type 0 where
   pub done : IsDone w (judged w line) text next
 
--- all these lines, one after the other
+-- it is refused at this place, with this word for why
+abbrev pub Bars : World → List ℕ → ℕ → List ℕ → Type 0
+Bars w line place word = judged w line ≡ Refused place word
+
+-- all these lines, one after the other, and all that they print
 abbrev pub Run : World → List (List ℕ) → List ℕ → World → Type 0
-Run w [] text end = (text ≡ []) × (end ≡ w)
-Run w (line ∷ lines) text end =
-    (next : World) × (first : List ℕ) × (others : List ℕ) × Step w line first next × Run next lines others end × (text ≡ first ++ others)
+Run = runs.Run Step
 
--- these lines are all done, from the world before the first, and this is what they print
-pub record Prints (lines : List (List ℕ)) (text : List ℕ) : Type 0 where
-  pub end : World
-  pub run : Run new_world lines text end
+-- these lines are all done, in a new world, and this is what they print
+abbrev pub Prints : List (List ℕ) → List ℕ → Type 0
+Prints = runs.Prints Step new_world
 
--- The lines before one of them are done and print a text, and that line is refused: its number, counted from 1, the place
--- in it, and the word for why.
-pub record Refuses (lines : List (List ℕ)) (text : List ℕ) (number place : ℕ) (word : List ℕ) : Type 0 where
-  pub before : List (List ℕ)
-  pub line : List ℕ
-  pub others : List (List ℕ)
-  pub cut : lines ≡ before ++ line ∷ others
-  pub end : World
-  pub run : Run new_world before text end
-  pub refused : judged end line ≡ Refused place word
-  pub numbered : number ≡ length before + 1
+-- the lines before one of them are done in a new world and print a text, and that line is refused
+abbrev pub Refuses : List (List ℕ) → (text : List ℕ) (number place : ℕ) (word : List ℕ) → Type 0
+Refuses = runs.Refuses Step Bars new_world

@@ -1,9 +1,9 @@
 -- How the lines of an input come of its beginning and its rest.
-use Rattle.std.proofs.Common.{◌≡◌, ◌≢◌, ℕ, ◌+◌, ◌-◌, ◌<◌, ◌≤◌, Bool, true, false, cond, eqb, leb, ltb, List, [], ◌∷◌, ◌++◌, length, take, drop, refl, sym, ap, ◌∙◌, subst, append_assoc, arith, length-append, inl, inr, ◌⊎◌}
+use Rattle.std.proofs.Common.{◌≡◌, ◌≢◌, ℕ, ◌+◌, ◌-◌, ◌<◌, ◌≤◌, Bool, true, false, eqb, leb, ltb, List, [], ◌∷◌, ◌++◌, length, take, refl, sym, ap, ◌∙◌, subst, append_assoc, arith, length-append, inl, inr, ◌⊎◌}
 use Rattle.std.proofs.lemmas.Bool.{ne_eqb, le-leb, lt-leb, le-ltb, lt-ltb, leb-true, leb-false}
-use Rattle.std.proofs.lemmas.List.{append-nil, take_all, take-append-le, take_at}
+use Rattle.std.proofs.lemmas.List.{append-nil, take_at}
 use Rattle.std.proofs.Math.Seq.{take-append-add}
-use Rattle.std.specs.List.{AllByRecursion, onto_first}
+use Rattle.std.specs.List.{onto_first}
 use Rattle.mu_model_script.specs.Pieces.{pieces, line_feed, without_empty_last, lines_of}
 use Rattle.mu_model_script.specs.Limits.{without_short_last, without_last, lines_in, ended_lines, most_in_line}
 use Rattle.mu_top.specs.Reading.{IsPart}

@@ -1,5 +1,5 @@
 -- What an event comes to in a world, from what the code has found there.
-use Rattle.std.proofs.Common.{◌≡◌, ℕ, ◌+◌, ◌<◌, ◌≤◌, ◌*◌, Bool, true, false, List, [], ◌∷◌, ◌++◌, length, map, Option, Some, None, nat_eq, nat_lt, nat_le, refl, sym, ap, ◌∙◌, append_assoc, subst, arith, is_some, slice_get, cond, ◌||◌}
+use Rattle.std.proofs.Common.{◌≡◌, ℕ, ◌<◌, ◌≤◌, ◌*◌, Bool, true, false, List, [], ◌∷◌, ◌++◌, length, map, Option, Some, None, nat_eq, refl, sym, ap, ◌∙◌, append_assoc, arith, is_some, slice_get, cond}
 use Rattle.std.proofs.lemmas.Bool.{le-ltb, lt-leb}
 use Rattle.std.proofs.lemmas.List.{append-nil}
 use Rattle.std.specs.Map.{lookup, set_value}
@@ -10,10 +10,9 @@ use Rattle.mu_model_node.specs.Node.{NodeState, is_addressee}
 use Rattle.mu_model_node.specs.Step.{NodeStep, PacketComes, node_step}
 use Rattle.mu_model_script.specs.Tokens.{Content}
 use Rattle.mu_model_script.specs.Texts.{active_text, unread_text}
-use Rattle.mu_model_script.specs.Event.{Event, Node, Say, Deliver, Active}
-use Rattle.mu_model_world.specs.World.{Member, World, member_at, config_of}
-use Rattle.mu_model_world.specs.Outcomes.{Outcome, outcomes, Moves, active_texts, begun, one, shown, delivered, stepped, with_member, with_packets, sent_texts, new_member, content_octets}
-use Rattle.mu_model_world.specs.Judged.{objection}
+use Rattle.mu_model_script.specs.Event.{Event, Node, Deliver, Active}
+use Rattle.mu_model_world.specs.World.{Member, World, config_of}
+use Rattle.mu_model_world.specs.Outcomes.{outcomes, Moves, active_texts, begun, one, shown, stepped, with_member, with_packets, sent_texts, new_member, content_octets}
 use Rattle.mu_top.specs.Moved.{Did}
 
 -- the one outcome of an event is a move

@@ -2,7 +2,7 @@
 use Rattle.std.proofs.Common.{◌≡◌, ◌≢◌, ℕ, suc, ◌+◌, Bool, true, false, eqb, List, [], ◌∷◌, length, drop, get_or, ◌<◌, drop-cons, slice_get, refl, sym, ap, ◌∙◌, arith}
 use Rattle.std.proofs.lemmas.Bool.{ne_eqb}
 use Rattle.std.specs.List.{onto_first}
-use Rattle.mu_model_script.specs.Pieces.{Token, placed, pieces, blank}
+use Rattle.mu_model_script.specs.Pieces.{placed, pieces, blank}
 use Rattle.mu_model_world.specs.Judged.{place_at}
 
 -- the place of token n of what begins at a place

@@ -1,11 +1,11 @@
 -- A message of another kind asks nothing of a node.
-use Rattle.std.proofs.Common.{◌≡◌, ◌≢◌, ℕ, ◌<◌, ◌≤◌, List, [], length, Option, Some, None, Result, Ok, Err, refl, ap, arith}
+use Rattle.std.proofs.Common.{◌≡◌, ◌≢◌, ℕ, ◌≤◌, List, [], length, Option, Some, None, Result, Ok, Err, refl}
 use Rattle.std.proofs.lemmas.Bool.{le-ltb, ne_eqb}
 use Rattle.mu_model_wire.specs.declared.Refusal.{Refusal}
-use Rattle.mu_model_wire.specs.Fields.{Fields, Shown, Message}
-use Rattle.mu_model_wire.specs.Reading.{Left, opcode_at, fields_at, fields_of, row_at, message_at, ◌>>=◌}
+use Rattle.mu_model_wire.specs.Fields.{Fields, Shown}
+use Rattle.mu_model_wire.specs.Reading.{Left, opcode_at, fields_at, fields_of, row_at, ◌>>=◌}
 use Rattle.mu_model_wire.specs.Table.{rows}
-use Rattle.mu_model_node.specs.Message.{Request, request_of, request_in, request_at}
+use Rattle.mu_model_node.specs.Message.{request_in, request_at}
 
 other_shown : (opcode : ℕ) → opcode ≢ 0x8308 → (r : Result (List Shown × List (List Shown)) Refusal)
     → request_in (r >>= λ shown. Ok (record { opcode = opcode; fields = shown.0; entries = shown.1 })) ≡ None

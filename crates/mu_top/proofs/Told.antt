@@ -1,9 +1,11 @@
 -- Facts about what is told before and after calls, and about answers.
-use Rattle.std.proofs.Common.{◌≡◌, ℕ, ◌+◌, ◌-◌, ◌++◌, [], length, length-drop, arith, take, drop, sym, ap, ◌∙◌, append_assoc, take-add, List, Option, Some, None, Result, Ok, Err, refl, subst}
-use Rattle.std.proofs.lemmas.List.{take_all}
+use Rattle.std.proofs.Common.{◌≡◌, ℕ, ◌+◌, ◌-◌, ◌++◌, [], ◌∷◌, length, length-drop, arith, take, drop, sym, ap, ◌∙◌, append_assoc, take-add, List, Option, Some, None, Result, Ok, Err, refl, subst, slice_index_or, zero, suc, ◌<◌, ◌≤◌, min, length-append}
+use Rattle.std.proofs.lemmas.List.{take_all, append-nil}
+use Rattle.std.specs.List.{concat}
+use Rattle.std.proofs.Math.Seq.{take-append-add}
 use Rattle.std.specs.Prelude.{IfSome}
-use Rattle.std.specs.Result.{OnOk}
-use Rattle.mu_outside.specs.Stream.{WriteTakes, KeepsTold}
+use Rattle.std.specs.Result.{OnOk, OnErr}
+use Rattle.mu_outside.specs.Stream.{WriteTakes}
 use Rattle.mu_top.specs.Reading.{WhereTold, Wrote, WroteSome}
 
 -- before any call
@@ -67,6 +69,10 @@ pub both_map : (S0 S1 K0 K1 : Option (List ℕ)) (X Y : List ℕ → List ℕ �
     → Both S0 S1 K0 K1 X → Both S0 S1 K0 K1 Y
 both_map S0 S1 K0 K1 X Y f = where_told S0 S1 _ _ (λ held left x. where_told K0 K1 (X held left) (Y held left) (f held left) x)
 
+-- before any call on either
+pub both_self : (S0 K0 : Option (List ℕ)) (X : List ℕ → List ℕ → List ℕ → List ℕ → Type 0) → ((held before : List ℕ) → X held held before before) → Both S0 S0 K0 K0 X
+both_self S0 K0 X f = told_self S0 _ (λ held. told_self K0 _ (λ before. f held before))
+
 -- a call on the source
 pub both_source : (S0 S1 S2 K0 K1 : Option (List ℕ)) (X Y : List ℕ → List ℕ → List ℕ → List ℕ → Type 0) (P : List ℕ → List ℕ → Type 0)
     → ((held left left' before after : List ℕ) → X held left before after → P left left' → Y held left' before after)
@@ -79,3 +85,58 @@ pub both_sink : (S0 S1 K0 K1 K2 : Option (List ℕ)) (X Y : List ℕ → List �
     → ((held left before after after' : List ℕ) → X held left before after → Q after after' → Y held left before after')
     → Both S0 S1 K0 K1 X → WhereTold K1 K2 Q → Both S0 S1 K0 K2 Y
 both_sink S0 S1 K0 K1 K2 X Y Q f x q = where_told S0 S1 _ _ (λ held left y. told_then K0 K1 K2 (X held left) Q (Y held left) (f held left) y q) x
+
+-- ---- pieces that are written one after the other
+
+pieces_next : (ps : List (List ℕ)) (i : ℕ) (d : List ℕ) → i < length ps → concat (take (i + 1) ps) ≡ concat (take i ps) ++ slice_index_or ps i d
+pieces_next [] i d lt = absurd (omega (arith, lt))
+pieces_next (p ∷ ps) zero d lt = append-nil p
+pieces_next (p ∷ ps) (suc i) d lt =
+    let next : suc i + 1 ≡ suc (i + 1) = omega arith in
+    ap (λ n. concat (take n (p ∷ ps))) next ∙ ap (λ t. p ++ t) (pieces_next ps i d (omega (arith, lt))) ∙ sym (append_assoc p (concat (take i ps)) (slice_index_or ps i d))
+
+pub piece_wrote : (o m n : Option (List ℕ)) (ps : List (List ℕ)) (i : ℕ) (d : List ℕ) → i < length ps → Wrote o m (concat (take i ps)) → Wrote m n (slice_index_or ps i d) → Wrote o n (concat (take (i + 1) ps))
+piece_wrote o m n ps i d lt = told_then o m n _ _ _ (λ before middle after p q.
+    q ∙ (ap (λ t. t ++ slice_index_or ps i d) p ∙ (append_assoc before (concat (take i ps)) (slice_index_or ps i d) ∙ ap (λ t. before ++ t) (sym (pieces_next ps i d lt)))))
+
+take_in_front : (xs ys : List ℕ) (k : ℕ) → k ≤ length xs → take k (xs ++ ys) ≡ take k xs
+take_in_front xs ys zero short = refl
+take_in_front [] ys (suc k) short = absurd (omega (arith, short))
+take_in_front (x ∷ xs) ys (suc k) short = ap (λ t. x ∷ t) (take_in_front xs ys k (omega (arith, short)))
+
+pub piece_cut : (o m n : Option (List ℕ)) (ps : List (List ℕ)) (i : ℕ) (d : List ℕ) → i < length ps → Wrote o m (concat (take i ps)) → WroteSome m n (slice_index_or ps i d) → WroteSome o n (concat ps)
+piece_cut o m n ps i d lt = told_then o m n _ _ _ (λ before middle after p q.
+    let front = concat (take i ps) in
+    let piece = slice_index_or ps i d in
+    let count = q.0 in
+    let short = take_within piece count in (
+      length front + min count (length piece),
+      q.1 ∙ (ap (λ t. t ++ take count piece) p ∙ (append_assoc before front (take count piece) ∙ ap (λ t. before ++ t) (ap (λ t. front ++ t) short ∙ whole ps i d lt (min count (length piece)) (omega arith)))),
+    ))
+  where
+    take_none : (n : ℕ) → take {A = ℕ} n [] ≡ []
+    take_none zero = refl
+    take_none (suc n) = refl
+
+    take_within : (xs : List ℕ) (k : ℕ) → take k xs ≡ take (min k (length xs)) xs
+    take_within xs zero =
+        let none : 0 ≡ min 0 (length xs) = omega arith in
+        ap (λ n. take n xs) none
+    take_within [] (suc k) = sym (take_none (min (suc k) 0))
+    take_within (x ∷ xs) (suc k) =
+        let one : suc (min k (length xs)) ≡ min (suc k) (length (x ∷ xs)) = omega arith in
+        ap (λ t. x ∷ t) (take_within xs k) ∙ ap (λ n. take n (x ∷ xs)) one
+
+    whole : (ps : List (List ℕ)) (i : ℕ) (d : List ℕ) → i < length ps → (k : ℕ) → k ≤ length (slice_index_or ps i d) → concat (take i ps) ++ take k (slice_index_or ps i d) ≡ take (length (concat (take i ps)) + k) (concat ps)
+    whole [] i d lt k short = absurd (omega (arith, lt))
+    whole (p ∷ ps) zero d lt k short =
+        let none : k ≡ 0 + k = omega arith in
+        sym (take_in_front p (concat ps) k short) ∙ ap (λ n. take n (p ++ concat ps)) none
+    whole (p ∷ ps) (suc i) d lt k short =
+        append_assoc p (concat (take i ps)) (take k (slice_index_or ps i d)) ∙ (ap (λ t. p ++ t) (whole ps i d (omega (arith, lt)) k short)
+        ∙ (sym (take-append-add p (concat ps) (length (concat (take i ps)) + k)) ∙ ap (λ n. take n (p ++ concat ps)) (omega (arith, length-append p (concat (take i ps))))))
+
+-- what holds holds at Err
+pub on_err : {T E : Type 0} (r : Result T E) (P : Type 0) → P → OnErr r P
+on_err (Ok x) P p = tt
+on_err (Err e) P p = p

@@ -1,5 +1,5 @@
 -- The messages of a node as the code has them.
-use Rattle.std.specs.Prelude.{ℕ, List, [], ◌∷◌, Option, Some, None}
+use Rattle.std.specs.Prelude.{[], ◌∷◌, Option, Some, None}
 use Rattle.mu_model_wire.specs.Fields.{number, Message}
 use Rattle.mu_model_wire.specs.Names.{first, limit}
 use Rattle.mu_model_node.specs.Message.{Request, InformationGet}

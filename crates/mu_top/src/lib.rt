@@ -13,6 +13,7 @@ mod status;
 #[cfg(test)]
 mod tests;
 mod words;
+mod work;
 mod world;
 mod writing;
 

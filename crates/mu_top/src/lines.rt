@@ -2,7 +2,7 @@
 ghost use Rattle.std.specs.Prelude.{◌≡◌, ◌≤◌, ◌∷◌, ◌++◌, [], length, decimal, codes, OnOk, OnErr};
 ghost use Rattle.hex.specs.Hex.{encode_lower};
 ghost use Rattle.mu_model_script.specs.Pieces.{blank};
-ghost use Rattle.mu_model_script.specs.Texts.{address_text, sent_text, unread_text, active_text, refused_text, line_word, bad_word};
+ghost use Rattle.mu_model_script.specs.Texts.{address_text, sent_text, unread_text, active_text, line_word, bad_word};
 
 use itoa::Buffer;
 use mu_codec::Packet;
@@ -114,17 +114,6 @@ fn active_line(
     end(line)
 }
 
-#[tactic(auto, using(std::proofs::Common::append_assoc))]
-fn refused_line(line: &mut Vec<u8>, number: u32, place: u16, why: &[u8]) -> Result<(), AllocError>
-    ensures { OnOk result (line.new.items ≡ refused_text number place why.now) }
-{
-    begin(line, b"refused")?;
-    put_number(line, number)?;
-    put_number(line, place as u32)?;
-    put_token(line, why)?;
-    end(line)
-}
-
 impl Lines {
     /// No text. This takes no memory.
     pub fn new(alloc: Global) -> Lines
@@ -180,15 +169,6 @@ impl Lines {
         ensures err { OnErr result (self.new ≡ self.old) }
     {
         active_line(&mut self.line, address, version, size, digest)?;
-        self.text.extend_from_slice(self.line.as_slice())
-    }
-
-    /// A line, counted from 1, is refused at this place.
-    pub fn refused(&mut self, line: u32, place: u16, why: &[u8]) -> Result<(), AllocError>
-        ensures ok { OnOk result (self.new ≡ self.old ++ refused_text line place why.now) }
-        ensures err { OnErr result (self.new ≡ self.old) }
-    {
-        refused_line(&mut self.line, line, place, why)?;
         self.text.extend_from_slice(self.line.as_slice())
     }
 }
@@ -251,22 +231,6 @@ mod tests {
         assert_eq!(rt;
             lines.bytes(),
             b"active 0002 1 1048576 ca000000000000000000000000000000000000000000000000000000000000bb\n".as_slice()
-        );
-        Ok(())
-    }
-
-    #[test]
-    fn refusals_are_written(rt: HostRuntime) -> Result<(), Fail> {
-        let mut lines = Lines::new(rt.alloc());
-        lines.refused(1, 4096, line_word(LineWhy::Long))?;
-        lines.refused(100000, 0, line_word(LineWhy::Token))?;
-        lines.refused(7, 19, bad_word(BadWhy::Token))?;
-        lines.refused(8, 5, bad_word(BadWhy::Member))?;
-        lines.refused(9, 8, bad_word(BadWhy::Packet))?;
-        lines.refused(10, 14, bad_word(BadWhy::Premise))?;
-        assert_eq!(rt;
-            lines.bytes(),
-            b"refused 1 4096 long\nrefused 100000 0 token\nrefused 7 19 token\nrefused 8 5 member\nrefused 9 8 packet\nrefused 10 14 premise\n".as_slice()
         );
         Ok(())
     }

@@ -1,120 +1,80 @@
 // Running a script.
-ghost use Rattle.std.specs.Prelude.{◌≡◌, ◌≢◌, []};
+ghost use Rattle.std.specs.Prelude.{◌≡◌, ◌≢◌};
 ghost use Rattle.mu_model_flash.specs.Cause.{Rose};
-ghost use Rattle.mu_model_script.specs.Texts.{refused_text};
+ghost use Rattle.mu_model_script.specs.Limits.{most_lines};
+ghost use Rattle.mu_model_world.specs.Run.{Step, Bars};
 ghost use Rattle.mu_model_world.specs.World.{new_world};
-ghost use Rattle.mu_top.specs.LineDone.{word_of, EndsAt};
-ghost use Rattle.mu_top.specs.Replay.{Completes, Replays, Told};
-ghost use Rattle.mu_top.specs.Status.{number_of};
+ghost use Rattle.mu_top.specs.Ends.{Completes, Ends};
 
-use crate::line::{LineStop, Why, do_line};
+use crate::line::do_line;
 use crate::lines::Lines;
-use crate::reader::{LineReader, Next, ReadStop};
 use crate::status::Status;
+use crate::work::{LineStop, LineWork, run};
 use crate::world::World;
 use crate::writing::write_all;
-use mu_model_script::LineWhy;
 use mu_model_world::laws::runs;
 use mu_outside::{Sink, Source};
 use std::alloc::Global;
+use std::marker::Model;
 
 /// The most lines of a script.
 const MOST_LINES: u32 = 100_000;
 
-/// Prints the line of a refusal.
-fn refuse<K: Sink>(lines: &mut Lines, sink: &mut K, number: u32, place: u16, why: Why) -> Status
-    ensures told { Told (K.written sink.old) (K.written sink.new) (refused_text number place (word_of why)) result }
-    ensures sink { result ≡ Status.SinkFault → Rose (K.faults sink.old) (K.faults sink.new) }
-    ensures command { result ≢ Status.Usage }
-    ensures source { result ≢ Status.SourceFault }
-{
-    lines.clear();
-    if lines.refused(number, place, why.word()).is_err() {
-        return Status::NoMemory;
-    }
-    if write_all(sink, lines.bytes()).is_err() {
-        return Status::SinkFault;
-    }
-    Status::Refused
+/// A world in which a script is run.
+#[derive(Drop)]
+struct Script {
+    world: World,
+    /// What the last line has printed.
+    lines: Lines,
 }
 
-/// How the command ends at a line that wasn't done.
-fn end_at<K: Sink>(stop: LineStop, lines: &mut Lines, sink: &mut K, number: u32) -> Status
-    ensures told { EndsAt (K.written sink.old) (K.written sink.new) number stop result }
-    ensures sink { result ≡ Status.SinkFault → Rose (K.faults sink.old) (K.faults sink.new) }
-    ensures command { result ≢ Status.Usage }
-    ensures source { result ≢ Status.SourceFault }
-{
-    match stop {
-        LineStop::Memory => Status::NoMemory,
-        LineStop::Refused { place, why } => refuse(lines, sink, number, place, why),
-    }
+impl Model for Script {
+    ghost use Rattle.mu_model_world.specs.World.{World as Seen};
+
+    ghost Value = { Seen };
+
+    ghost view = { λ s. s.world };
 }
 
-/// Runs a script in a new world, with a reader that has read nothing and no text.
-fn run<S: Source, K: Sink>(
-    world: &mut World,
-    reader: &mut LineReader,
-    lines: &mut Lines,
-    source: &mut S,
-    sink: &mut K,
-) -> Status
-    requires world { world.old ≡ new_world }
-    requires reader { reader.old ≡ record { ahead = []; given = 0; line = [] } }
-    requires silent { lines.old ≡ [] }
-    ensures replays { Replays (S.left source.old) (S.left source.new) (K.written sink.old) (K.written sink.new) result }
-    ensures source { result ≡ Status.SourceFault → Rose (S.faults source.old) (S.faults source.new) }
-    ensures sink { result ≡ Status.SinkFault → Rose (K.faults sink.old) (K.faults sink.new) }
-    ensures command { result ≢ Status.Usage }
-{
-    let mut count = 0;
-    'lines: loop {
-        if count == MOST_LINES {
-            match reader.has_more(source) {
-                Ok(true) => return Status::TooLong,
-                Ok(false) => return Status::Done,
-                Err(_) => return Status::SourceFault,
-            }
-        }
-        let next = match reader.next(source) {
-            Ok(next) => next,
-            Err(ReadStop::Source) => return Status::SourceFault,
-            Err(ReadStop::TooLong) => return Status::TooLong,
-            Err(ReadStop::LongLine) => {
-                return refuse(lines, sink, count + 1, 4096, Why::Line(LineWhy::Long));
-            }
-        };
-        if let Next::End = next {
-            return Status::Done;
-        }
-        count += 1;
-        match do_line(world, reader.line(), lines) {
-            Ok(()) => {}
-            Err(stop) => return end_at(stop, lines, sink, count),
-        }
-        match write_all(sink, lines.bytes()) {
-            Ok(()) => {}
-            Err(_) => return Status::SinkFault,
-        }
-        lines.clear();
-        if let Next::Last = next {
-            return Status::Done;
+impl LineWork for Script {
+    ghost use Rattle.std.specs.Prelude.{◌≡◌, ◌≤◌, ◌<◌, length, OnOk, IfErr};
+    ghost use Rattle.mu_model_flash.specs.Cause.{Rose};
+    ghost use Rattle.mu_model_world.specs.Run.{Step, Bars};
+    ghost use Rattle.mu_top.specs.LineDone.{DidLine, StopsLine};
+    ghost use Rattle.std.proofs.lemmas.Bool.{lt-ltb};
+    ghost use Rattle.std.proofs.Common.{refl};
+
+    ghost does = { Step };
+
+    ghost bars = { Bars };
+
+    ghost grows = { λ _. Unit {0} };
+
+    ghost too_long = { λ state line long. rw (lt-ltb 4096 (length line) long) refl };
+
+    fn do_line<K: Sink>(&mut self, line: &[u8], sink: &mut K) -> Result<(), LineStop> {
+        self.lines.clear();
+        do_line(&mut self.world, line, &mut self.lines)?;
+        match write_all(sink, self.lines.bytes()) {
+            Ok(()) => Ok(()),
+            Err(_) => Err(LineStop::Sink),
         }
     }
 }
 
 /// Runs the script that the source gives, line by line, and writes its trace.
 pub(crate) fn replay<S: Source, K: Sink>(alloc: Global, source: &mut S, sink: &mut K) -> Status
-    ensures replays { Replays (S.left source.old) (S.left source.new) (K.written sink.old) (K.written sink.new) result }
+    ensures ends { Ends Step Bars new_world most_lines (S.left source.old) (S.left source.new) (K.written sink.old) (K.written sink.new) result }
     ensures complete { (Rose (S.faults source.old) (S.faults source.new) → ⊥) → (Rose (K.faults sink.old) (K.faults sink.new) → ⊥)
-        → Completes (S.left source.old) (S.left source.new) (K.written sink.old) (K.written sink.new) (number_of result) }
+        → Completes Step Bars new_world most_lines (S.left source.old) (S.left source.new) (K.written sink.old) (K.written sink.new) result }
     ensures source { result ≡ Status.SourceFault → Rose (S.faults source.old) (S.faults source.new) }
     ensures sink { result ≡ Status.SinkFault → Rose (K.faults sink.old) (K.faults sink.new) }
     ensures command { result ≢ Status.Usage }
 {
-    let mut world = World::new(alloc);
-    let mut reader = LineReader::new();
-    let mut lines = Lines::new(alloc);
+    let mut script = Script {
+        world: World::new(alloc),
+        lines: Lines::new(alloc),
+    };
     runs();
-    run(&mut world, &mut reader, &mut lines, source, sink)
+    run(&mut script, MOST_LINES, source, sink)
 }

@@ -352,5 +352,5 @@ fn an_input_may_have_16777216_octets(rt: HostRuntime) -> Result<(), Fail> {
     // A line that is too long shows it before the limit.
     script[16_777_215] = b'#';
     script[16_773_119] = b'#';
-    expect(&rt, alloc, &script, 7, b"refused 4096 4096 long\n")
+    expect(&rt, alloc, &script, 7, b"refused 4095 4096 long\n")
 }

@@ -1,4 +1,4 @@
-use Rattle.std.proofs.Common.{◌≡◌, ℕ, ◌+◌, ◌*◌, ◌≤◌, List, ◌++◌, map, drop, length}
+use Rattle.std.proofs.Common.{◌≡◌, ◌+◌, ◌*◌, ◌≤◌, ◌++◌, map, drop}
 use Rattle.arrayvec.specs.ArrayVec.{array_vec_len}
 use Rattle.mu_model_wire.specs.Spelling.{entries_spelling}
 use Rattle.mu_model_wire.specs.Update.{entry_fields}

@@ -1,4 +1,4 @@
-use Rattle.std.proofs.Common.{◌≡◌, ℕ, ◌<◌, drop, List}
+use Rattle.std.proofs.Common.{◌≡◌, ◌<◌, drop}
 use Rattle.mu_top.proofs.Places.{place_in}
 use Rattle.mu_top.proofs.line.place_of.Given as goal
 

@@ -1,6 +1,4 @@
-use Rattle.std.proofs.Common.{◌≡◌, refl, arith, ap, sym, rules}
-use Rattle.std.proofs.lemmas.Grind.{common_steps}
-use Rattle.mu_top.specs.Reading.{Reader, Took}
+use Rattle.std.proofs.Common.{refl, arith}
 use Rattle.mu_top.proofs.Told.{told_self}
 use Rattle.mu_top.proofs.reader.LineReader.next.Goals as goal
 

@@ -1,4 +1,4 @@
-use Rattle.std.proofs.Common.{◌≡◌, ℕ, ◌-◌, ◌≤◌, length, List}
+use Rattle.std.proofs.Common.{◌-◌, ◌≤◌, length}
 use Rattle.mu_top.specs.Reading.{WhereTold, Took, IsPart}
 use Rattle.mu_top.proofs.reader.LineReader.next.Given as goal
 

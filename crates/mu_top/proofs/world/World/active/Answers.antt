@@ -1,4 +1,4 @@
-use Rattle.std.proofs.Common.{◌≡◌, nat_eq, ap, sym, ◌∙◌}
+use Rattle.std.proofs.Common.{nat_eq, ap, sym, ◌∙◌}
 use Rattle.std.specs.Map.{lookup}
 use Rattle.mu_model_world.specs.World.{World}
 use Rattle.mu_model_world.specs.Outcomes.{begun}

@@ -1,4 +1,4 @@
-use Rattle.std.proofs.Common.{◌≡◌, ◌++◌, List, ℕ, nat_eq, length, cond, [], map, true, refl, ap, sym, ◌∙◌, Some, slice_get}
+use Rattle.std.proofs.Common.{◌≡◌, ◌++◌, List, ℕ, nat_eq, length, cond, [], map, true, refl, ap, sym, ◌∙◌, slice_get}
 use Rattle.std.specs.Map.{lookup, set_value}
 use Rattle.std.proofs.lemmas.Option.{slice_get-map}
 use Rattle.std.specs.Option.{option_map}
@@ -7,7 +7,7 @@ use Rattle.mu_model_node.specs.Node.{is_addressee}
 use Rattle.mu_model_node.specs.Step.{PacketComes, node_step}
 use Rattle.mu_model_script.specs.Texts.{unread_text}
 use Rattle.mu_model_world.specs.World.{World, Member, config_of}
-use Rattle.mu_model_world.specs.Outcomes.{begun, sent_texts, with_packets}
+use Rattle.mu_model_world.specs.Outcomes.{sent_texts, with_packets}
 use Rattle.mu_top.proofs.Told.{on_ok_both, if_some_at}
 use Rattle.mu_top.proofs.Events.{delivered_one, step_of}
 use Rattle.mu_top.proofs.world.World.deliver.Goals as goal

@@ -1,11 +1,11 @@
-use Rattle.std.proofs.Common.{◌≡◌, ◌≤◌, ◌<◌, ◌*◌, ◌++◌, ◌∷◌, [], List, ℕ, None, nat_eq, length, map, refl, ap, sym, ◌∙◌, arith}
+use Rattle.std.proofs.Common.{◌≡◌, ◌++◌, ◌∷◌, [], List, ℕ, nat_eq, length, map, refl, ap, sym, ◌∙◌, arith}
 use Rattle.std.specs.Map.{lookup}
 use Rattle.indexmap.proofs.CallerLemmas.{insert_entry-new}
 use Rattle.mu_codec.specs.View.{packet_of}
 use Rattle.mu_model_image.specs.Meta.{image_of}
 use Rattle.mu_model_node.specs.Node.{new_node, restarted}
 use Rattle.mu_model_world.specs.World.{World, Member}
-use Rattle.mu_model_world.specs.Outcomes.{with_member, new_member, content_octets}
+use Rattle.mu_model_world.specs.Outcomes.{with_member, new_member}
 use Rattle.mu_script.specs.View.{content}
 use Rattle.mu_top.proofs.Events.{joined_one, none_there}
 use Rattle.mu_top.proofs.world.World.node.Goals as goal

@@ -1,4 +1,4 @@
-use Rattle.std.proofs.Common.{◌≡◌, ℕ, List, ◌++◌, map, length}
+use Rattle.std.proofs.Common.{◌≡◌, ◌++◌, map, length}
 use Rattle.arrayvec.specs.ArrayVec.{array_vec_len}
 use Rattle.mu_codec.specs.View.{packet_of}
 use Rattle.mu_model_world.specs.Outcomes.{with_packets, sent_texts}

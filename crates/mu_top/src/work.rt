@@ -1,0 +1,131 @@
+// Doing an input line by line.
+ghost use Rattle.std.specs.Prelude.{◌≡◌, ◌≢◌, ◌≤◌, ◌<◌, ◌⊎◌, ℕ, List, length, codes, map, OnOk, IfErr};
+ghost use Rattle.std.specs.List.{concat};
+ghost use Rattle.mu_model_flash.specs.Cause.{Rose};
+ghost use Rattle.mu_model_script.specs.Texts.{refused_text};
+ghost use Rattle.mu_top.specs.Ends.{Ends, Told};
+ghost use Rattle.mu_top.specs.LineDone.{DidLine, StopsLine, EndsAt};
+
+use crate::reader::{LineReader, Next, ReadStop};
+use crate::status::Status;
+use crate::writing::write_pieces;
+use itoa::Buffer;
+use mu_outside::{Sink, Source};
+
+/// Why a line wasn't done.
+#[derive(Clone, Copy)]
+pub(crate) enum LineStop {
+    /// Want of memory.
+    Memory,
+    /// The sink failed.
+    Sink,
+    /// The line is refused at a place, with a word for why.
+    Refused { place: u16, word: &'static [u8] },
+}
+
+/// What a command does with each line of its input.
+pub(crate) trait LineWork {
+    /// A line is done with this text, and leads to the next state.
+    ghost does: { Self → List ℕ → List ℕ → Self → Type 0 };
+
+    /// A line is refused at a place, with a word for why.
+    ghost bars: { Self → List ℕ → ℕ → List ℕ → Type 0 };
+
+    /// Memory is taken on the way.
+    ghost grows: { Self → Type 0 };
+
+    /// A line that is too long is refused at its limit, whatever it holds.
+    ghost too_long: { (state : Self) (line : List ℕ) → 4096 < length line → bars state line 4096 (codes "long") };
+
+    /// Does one line and writes what it prints. Nothing is written of a refused line.
+    fn do_line<K: Sink>(&mut self, line: &[u8], sink: &mut K) -> Result<(), LineStop>
+        requires { length line.now ≤ 4096 }
+        ensures did { OnOk result (DidLine does self.old line.now self.new (K.written sink.old) (K.written sink.new)) }
+        ensures stops { IfErr result (StopsLine does bars self.old line.now (K.written sink.old) (K.written sink.new)) }
+        ensures grows { IfErr result (λ stop. stop ≡ LineStop.Memory → grows self.old) }
+        ensures failed { IfErr result (λ stop. stop ≡ LineStop.Sink → Rose (K.faults sink.old) (K.faults sink.new)) }
+        ensures later { K.faults sink.old ≤ K.faults sink.new };
+}
+
+/// Prints the line of a refusal.
+fn refuse<K: Sink>(sink: &mut K, number: u32, place: u16, word: &[u8]) -> Status
+    ensures told { Told (K.written sink.old) (K.written sink.new) (refused_text number place word.now) result }
+    ensures sink { result ≡ Status.SinkFault → Rose (K.faults sink.old) (K.faults sink.new) }
+    ensures later { K.faults sink.old ≤ K.faults sink.new }
+    ensures is { (result ≡ Status.Refused) ⊎ (result ≡ Status.SinkFault) }
+{
+    let mut number_buffer = Buffer::new();
+    let mut place_buffer = Buffer::new();
+    let pieces = [
+        b"refused ".as_slice(),
+        number_buffer.format(number).as_bytes(),
+        b" ",
+        place_buffer.format(place).as_bytes(),
+        b" ",
+        word,
+        b"\n",
+    ];
+    match write_pieces(sink, &pieces) {
+        Ok(()) => Status::Refused,
+        Err(_) => Status::SinkFault,
+    }
+}
+
+/// How the command ends at a line that wasn't done.
+fn end_at<K: Sink>(stop: LineStop, sink: &mut K, number: u32) -> Status
+    ensures told { EndsAt (K.written sink.old) (K.written sink.new) number stop result }
+    ensures sink { result ≡ Status.SinkFault → (stop ≡ LineStop.Sink) ⊎ Rose (K.faults sink.old) (K.faults sink.new) }
+    ensures memory { result ≡ Status.NoMemory → stop ≡ LineStop.Memory }
+    ensures later { K.faults sink.old ≤ K.faults sink.new }
+    ensures command { result ≢ Status.Usage }
+    ensures source { result ≢ Status.SourceFault }
+{
+    match stop {
+        LineStop::Memory => Status::NoMemory,
+        LineStop::Sink => Status::SinkFault,
+        LineStop::Refused { place, word } => refuse(sink, number, place, word),
+    }
+}
+
+/// Does all lines of an input of at most so many lines, each before the next is read.
+pub(crate) fn run<W: LineWork, S: Source, K: Sink>(
+    work: &mut W,
+    most_lines: u32,
+    source: &mut S,
+    sink: &mut K,
+) -> Status
+    ensures ends { Ends W.does W.bars work.old most_lines (S.left source.old) (S.left source.new) (K.written sink.old) (K.written sink.new) result }
+    ensures source { result ≡ Status.SourceFault → Rose (S.faults source.old) (S.faults source.new) }
+    ensures sink { result ≡ Status.SinkFault → Rose (K.faults sink.old) (K.faults sink.new) }
+    ensures memory { result ≡ Status.NoMemory → (state : W) × W.grows state }
+    ensures command { result ≢ Status.Usage }
+{
+    let mut reader = LineReader::new();
+    let mut count = 0;
+    'lines: loop {
+        if count == most_lines {
+            match reader.has_more(source) {
+                Ok(true) => return Status::TooLong,
+                Ok(false) => return Status::Done,
+                Err(_) => return Status::SourceFault,
+            }
+        }
+        let next = match reader.next(source) {
+            Ok(next) => next,
+            Err(ReadStop::Source) => return Status::SourceFault,
+            Err(ReadStop::TooLong) => return Status::TooLong,
+            Err(ReadStop::LongLine) => return refuse(sink, count + 1, 4096, b"long"),
+        };
+        if let Next::End = next {
+            return Status::Done;
+        }
+        count += 1;
+        match work.do_line(reader.line(), sink) {
+            Ok(()) => {}
+            Err(stop) => return end_at(stop, sink, count),
+        }
+        if let Next::Last = next {
+            return Status::Done;
+        }
+    }
+}
