@@ -23,9 +23,21 @@ fn packet(octets: &[u8]) -> Packet {
 #[test]
 fn messages_of_all_models_are_read_and_written(rt: HostRuntime) {
     for (octets, message) in [
-        (b"\x83\x06".as_slice(), Message::Blob(BlobMsg::BlobInformationGet)),
-        (b"\x66\x01\x00\xAA", Message::Blob(BlobMsg::ChunkTransfer { chunk: 1, octets: b"\xAA" })),
-        (b"\x83\x08\x01\x02", Message::Upd(UpdMsg::InformationGet { first: 1, limit: 2 })),
+        (
+            b"\x83\x06".as_slice(),
+            Message::Blob(BlobMsg::BlobInformationGet),
+        ),
+        (
+            b"\x66\x01\x00\xAA",
+            Message::Blob(BlobMsg::ChunkTransfer {
+                chunk: 1,
+                octets: b"\xAA",
+            }),
+        ),
+        (
+            b"\x83\x08\x01\x02",
+            Message::Upd(UpdMsg::InformationGet { first: 1, limit: 2 }),
+        ),
         (b"\x83\x0F", Message::Upd(UpdMsg::UpdateApply)),
         (b"\x83\x12", Message::Dist(DistMsg::ReceiversDeleteAll)),
         (b"\x83\x26", Message::Dist(DistMsg::FirmwareDeleteAll)),
@@ -64,7 +76,10 @@ fn datagrams_carry_packets(rt: HostRuntime) {
     let one = packet(b"\x83\x0C");
     assert!(rt; one.payload.len() > 0);
     let octets = datagram(&one);
-    assert_eq!(rt; octets.as_slice(), b"MU\x01\x00\x02\x01\xFE\xC0\x83\x0C".as_slice());
+    assert_eq!(rt;
+        octets.as_slice(),
+        b"MU\x01\x00\x02\x01\xFE\xC0\x83\x0C".as_slice()
+    );
     assert_eq!(rt; undatagram(octets.as_slice()), Ok(one));
     let mut most = [0x66; 389];
     most[..8].copy_from_slice(b"MU\x01\x00\x02\x01\xFE\xC0");

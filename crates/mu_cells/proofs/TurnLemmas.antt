@@ -1,15 +1,16 @@
 -- The operations of a call, read as turns of a page, a slot or a mark.
 use Rattle.std.proofs.Common.{◌≡◌, ◌⊎◌, inl, inr, ⊎_elim, IsTrue, Result, ℕ, ◌+◌, ◌*◌, ◌<◌, ◌≤◌, List, [], ◌∷◌, length, get_or, slice_range, refl, sym, ◌∙◌, ap, subst, arith}
+use Rattle.std.proofs.lemmas.List.{ext_get_or}
 use Rattle.mu_model_flash.specs.Bits.{AreOctets, blank, written, part_of, SameOutside, Between}
 use Rattle.mu_model_flash.specs.Flash.{Seen, IsSound}
 use Rattle.mu_model_flash.specs.Run.{exact, either, Refines, Ran, Runs}
-use Rattle.mu_model_flash.proofs.BitLemmas.{length-blank, get-blank, written-written}
-use Rattle.mu_model_flash.proofs.RangeLemmas.{length-part, range-part, outside_same, outside-written, part-written, outside-between, part-between, same-whole, torn-outside, torn-part, one_blank, mark_torn}
+use Rattle.mu_model_flash.proofs.BitLemmas.{length-blank, get-blank, length-written, written-inside, written-written}
+use Rattle.mu_model_flash.proofs.RangeLemmas.{length-part, get-part, range-part, outside_same, outside-written, part-written, outside-between, part-between, same-whole, torn-outside, torn-part, one_blank, mark_torn}
 use Rattle.mu_model_flash.proofs.Readings.{runs_as, one_operation, refines_same}
 use Rattle.mu_model_flash.proofs.Compose.{told_back}
 use Rattle.mu_model_record.specs.Code.{coded, content_of, IsCodeWord, HasPairOfOnes}
 use Rattle.mu_model_record.specs.Page.{page_of, slot_of, slot_place, format_of, IsSafePage, PageFades}
-use Rattle.mu_model_record.specs.Turns.{before, after, PageErases, PageTurns, SlotTurns, MarkTurns}
+use Rattle.mu_model_record.specs.Turns.{before, after, PageErases, PageTurns, SlotTurns, MarkTurns, StaysOutside}
 use Rattle.mu_model_record.proofs.CodeLemmas.{length-coded, coded_is}
 use Rattle.mu_model_record.proofs.PageLemmas.{torn_code, torn_erase, torn_program, erased_fades, fades_same, ff_pair}
 
@@ -27,6 +28,39 @@ module _ (old : List ℕ) (page : ℕ) (within : 4096 * page + 4096 ≤ length o
 
   pub erased_page : page_of (written old (4096 * page) (blank 4096)) page ≡ blank 4096
   erased_page = part-written old (4096 * page) 4096 within (blank 4096) ff
+
+  erased_outside : (c : List ℕ) → c ≡ written old (4096 * page) (blank 4096) → SameOutside (4096 * page) 4096 old c
+  erased_outside c is = subst (λ (x : List ℕ). SameOutside (4096 * page) 4096 old x) (sym is) (outside-written old (4096 * page) 4096 within (blank 4096) ff)
+
+  pub erase_outside : Refines exact (either (StaysOutside (4096 * page) 4096 old)) old (written old (4096 * page) (blank 4096) ∷ []) tt (tt ∷ [])
+  erase_outside = (λ c is. (still c is).0, λ c torn. inl (torn-outside old (4096 * page) 4096 within (blank 4096) ff c torn), λ c is. erased_outside c is)
+
+  pub write_outside : (word : List ℕ) → length word ≡ 4096
+      → Refines exact (either (StaysOutside (4096 * page) 4096 old)) old (written old (4096 * page) (blank 4096) ∷ written old (4096 * page) word ∷ []) tt (tt ∷ tt ∷ [])
+  write_outside word size = (
+    λ c is. (still c is).0,
+    λ c torn. inl (torn-outside old (4096 * page) 4096 within (blank 4096) ff c torn),
+    (
+      λ c is. erased_outside c is,
+      λ c torn. inl (outside-between old (4096 * page) 4096 within (blank 4096) word ff size c torn),
+      λ c is. subst (λ (x : List ℕ). SameOutside (4096 * page) 4096 old x) (sym is) (outside-written old (4096 * page) 4096 within word size),
+    ),
+  )
+
+  -- a slot of an erased page
+  pub erased_slot : (k : ℕ) → k < 4 → slot_of (written old (4096 * page) (blank 4096)) page k ≡ blank 1024
+  erased_slot k lt =
+      let E : List ℕ = written old (4096 * page) (blank 4096) in
+      let size : length E ≡ length old = length-written old (4096 * page) (blank 4096) (omega (arith, ff, within)) in
+      let here : length (slot_of E page k) ≡ 1024 = length-part E (slot_place page k) 1024 (omega (arith, size, within, lt)) in
+      ext_get_or 0 (slot_of E page k) (blank 1024) (here ∙ sym (length-blank 1024)) (λ i i_lt.
+      let low : i < 1024 = omega (arith, i_lt, here) in
+      let at : slot_place page k + i ≡ 4096 * page + (1024 * k + i) = omega arith in
+      get-part E (slot_place page k) 1024 i low
+      ∙ ap (λ (n : ℕ). get_or E n 0) at
+      ∙ written-inside old (4096 * page) (blank 4096) (omega (arith, ff, within)) (1024 * k + i) (omega (arith, ff, low, lt))
+      ∙ get-blank 4096 (1024 * k + i) (omega (arith, low, lt))
+      ∙ sym (get-blank 1024 i low))
 
   module _ (safe : IsSafePage (page_of old page)) where
     fades : (c : List ℕ) → Between old (written old (4096 * page) (blank 4096)) c → SameOutside (4096 * page) 4096 old c × PageFades (page_of old page) (page_of c page)
@@ -116,6 +150,11 @@ module _ (a : Seen) (sound : IsSound a) where
       ∙ erased_page a.octets page (within_told page lies was)
       ∙ ap blank (sym size)
 
+  pub erased_slot_reads : (page : ℕ) → page < a.pages → (b : Seen) → Ran exact a.octets (written a.octets (4096 * page) (blank 4096) ∷ []) a b → IsTrue b.told → (k : ℕ) → k < 4 → slot_of b.octets page k ≡ blank 1024
+  erased_slot_reads page lies b ran told k lt =
+      let was : IsTrue a.told = told_back a b ran.keeps told in
+      ap (λ (o : List ℕ). slot_of o page k) (ran.ends was) ∙ erased_slot a.octets page (within_told page lies was) k lt
+
   module _ {T X : Type 0} (c : Seen) (result : Result T X) where
     pub erase_runs : (page : ℕ) → page < a.pages → (IsTrue a.told → IsSafePage (page_of a.octets page)) → Runs exact a.octets (written a.octets (4096 * page) (blank 4096) ∷ []) a c result
         → Runs (either (PageErases a.octets page)) before (after ∷ []) a c result
@@ -129,6 +168,19 @@ module _ (a : Seen) (sound : IsSound a) where
     page_runs page octets lies many small long safe r =
         runs_as exact (either (PageTurns a.octets page octets)) a.octets (written a.octets (4096 * page) (blank 4096) ∷ written a.octets (4096 * page) (coded octets) ∷ []) before (before ∷ after ∷ []) a c result refl
         (λ told. turns a.octets page (within_told page lies told) (safe told) octets many small long) r
+
+    pub erase_stays : (page : ℕ) → page < a.pages → Runs exact a.octets (written a.octets (4096 * page) (blank 4096) ∷ []) a c result
+        → Runs (either (StaysOutside (4096 * page) 4096 a.octets)) tt (tt ∷ []) a c result
+    erase_stays page lies r =
+        runs_as exact (either (StaysOutside (4096 * page) 4096 a.octets)) a.octets (written a.octets (4096 * page) (blank 4096) ∷ []) tt (tt ∷ []) a c result refl
+        (λ told. erase_outside a.octets page (within_told page lies told)) r
+
+    pub write_stays : (page : ℕ) (octets : List ℕ) → page < a.pages → length octets ≡ 2048
+        → Runs exact a.octets (written a.octets (4096 * page) (blank 4096) ∷ written a.octets (4096 * page) (coded octets) ∷ []) a c result
+        → Runs (either (StaysOutside (4096 * page) 4096 a.octets)) tt (tt ∷ tt ∷ []) a c result
+    write_stays page octets lies many r =
+        runs_as exact (either (StaysOutside (4096 * page) 4096 a.octets)) a.octets (written a.octets (4096 * page) (blank 4096) ∷ written a.octets (4096 * page) (coded octets) ∷ []) tt (tt ∷ tt ∷ []) a c result refl
+        (λ told. write_outside a.octets page (within_told page lies told) (coded octets) (omega (arith, length-coded octets, many))) r
 
     -- an erase, and then a program of the same page
     pub page_operations : (page : ℕ) (octets : List ℕ) → page < a.pages → length octets ≡ 2048 → (b : Seen) → Ran exact a.octets (written a.octets (4096 * page) (blank 4096) ∷ []) a b

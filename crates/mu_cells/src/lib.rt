@@ -10,3 +10,6 @@ pub use mark::{Mark, read_mark, write_mark};
 pub use mu_outside::Failed;
 pub use page::{erase_page, read_page, write_page};
 pub use slot::{read_slot, write_slot};
+
+#[cfg(test)]
+mod tests;

@@ -6,7 +6,7 @@ ghost use Rattle.mu_model_flash.specs.Flash.{Unchanged};
 ghost use Rattle.mu_model_flash.specs.Run.{exact, either, Runs};
 ghost use Rattle.mu_model_record.specs.Code.{coded, IsCodeWord, content_of};
 ghost use Rattle.mu_model_record.specs.Page.{page_of, format_of, IsSafePage};
-ghost use Rattle.mu_model_record.specs.Turns.{before, after, PageErases, PageTurns};
+ghost use Rattle.mu_model_record.specs.Turns.{before, after, PageErases, PageTurns, StaysOutside};
 
 use crate::code::{decode, encode};
 use mu_outside::{Failed, Flash};
@@ -18,6 +18,9 @@ pub fn erase_page<F: Flash>(flash: &mut F, page: u32) -> Result<(), Failed>
     requires within { page < (F.seen flash.old).pages }
     requires few { page < 2 ^ 20 }
     ensures operations { Runs exact (F.seen flash.old).octets (written (F.seen flash.old).octets (4096 * page) (blank 4096) ∷ []) (F.seen flash.old) (F.seen flash.new) result }
+
+    // In every image all octets outside the page are as before.
+    ensures outside { Runs (either (StaysOutside (4096 * page) 4096 (F.seen flash.old).octets)) tt (tt ∷ []) (F.seen flash.old) (F.seen flash.new) result }
 
     // In every image the page has no word that it hadn't.
     ensures cuts { (IsTrue (F.seen flash.old).told → IsSafePage (page_of (F.seen flash.old).octets page))
@@ -36,6 +39,9 @@ pub fn write_page<F: Flash>(flash: &mut F, page: u32, octets: &[u8; 2048]) -> Re
     ensures operations { Runs exact (F.seen flash.old).octets
         (written (F.seen flash.old).octets (4096 * page) (blank 4096) ∷ written (F.seen flash.old).octets (4096 * page) (coded octets.now) ∷ [])
         (F.seen flash.old) (F.seen flash.new) result }
+
+    // In every image all octets outside the page are as before.
+    ensures outside { Runs (either (StaysOutside (4096 * page) 4096 (F.seen flash.old).octets)) tt (tt ∷ tt ∷ []) (F.seen flash.old) (F.seen flash.new) result }
 
     // In every image the page has no word that it hadn't but the new one. The octets are those of a long record.
     ensures cuts { (IsTrue (F.seen flash.old).told → IsSafePage (page_of (F.seen flash.old).octets page)) → format_of octets.now ≡ 1

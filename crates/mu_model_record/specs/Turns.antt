@@ -27,3 +27,7 @@ SlotTurns old page slot octets after c = c ≡ written old (slot_place page slot
 abbrev pub MarkTurns : List ℕ → ℕ → Turn → List ℕ → Type 0
 MarkTurns old at before c = c ≡ old
 MarkTurns old at after c = c ≡ written old at (254 ∷ [])
+
+-- Whatever happens to a range, all octets outside it are as before.
+abbrev pub StaysOutside : ℕ → ℕ → List ℕ → Unit {0} → List ℕ → Type 0
+StaysOutside at n old here c = SameOutside at n old c

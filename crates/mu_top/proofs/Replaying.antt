@@ -16,12 +16,13 @@ use Rattle.mu_top.specs.declared.reader.Next.{Next}
 use Rattle.mu_top.specs.declared.reader.Next.TheVariants.{Line, Last, End}
 use Rattle.mu_top.specs.declared.reader.ReadStop.TheVariants as Stop
 use Rattle.mu_top.specs.declared.status.Status.TheVariants.{Done, Usage, SourceFault, SinkFault, Refused as IsRefusedStatus, NoMemory, TooLong}
+use Rattle.mu_top.specs.Status.{number_of}
 use Rattle.mu_top.specs.declared.status.Status.{Status}
-use Rattle.mu_top.proofs.Told.{Both, both_map, both_source, both_sink}
+use Rattle.mu_top.proofs.Told.{Both, both_map, both_source, both_sink, where_told}
 use Rattle.mu_top.specs.declared.line.LineStop.{LineStop}
 use Rattle.mu_top.specs.declared.line.LineStop.TheVariants.{Memory, Refused as RefusedLine}
 use Rattle.mu_top.specs.LineDone.{word_of, Stops, EndsAt}
-use Rattle.mu_top.specs.Replay.{ReplayEnds, Told, IsWhole, IsRefused, IsTooLong, IsInPart, IsTraceOfSome, IsBeginning}
+use Rattle.mu_top.specs.Replay.{ReplayEnds, Replays, Completes, IsSound, Told, IsWhole, IsRefused, IsTooLong, IsInPart, IsTraceOfSome, IsBeginning}
 use Rattle.mu_top.proofs.Cuts.{lines_in_front, lines_in_end, lines_in_line, lines_in_last, BeginsLong, lines_in_long, lines_in_part, lines_in_more, pieces_at, pieces_ended, pieces_part, ended_front}
 
 -- Between two lines: the octets of the input that are done and those to come, how many lines are done, the world that they
@@ -445,3 +446,22 @@ pub only_line : (next : Next) → (next ≡ End → ⊥) → (next ≡ Last → 
 only_line Line a b = refl
 only_line Last a b = absurd (b refl)
 only_line End a b = absurd (a refl)
+
+-- ---- a sound script
+
+-- where the source and the sink don't fail, it is done whole, or memory is wanting
+pub completes : (source source' sink sink' : Option (List ℕ)) (status : Status) → Replays source source' sink sink' status → (status ≡ SourceFault → ⊥) → (status ≡ SinkFault → ⊥)
+    → Completes source source' sink sink' (number_of status)
+completes source source' sink sink' status replays reads writes =
+    where_told source source' _ _ (λ held left p.
+        where_told sink sink' _ _ (λ before after q. λ sound. ended held left q.0 status sound q.2 reads writes) p) replays
+  where
+    ended : (held left written : List ℕ) (status : Status) → IsSound held → ReplayEnds held left written status → (status ≡ SourceFault → ⊥) → (status ≡ SinkFault → ⊥)
+        → (number_of status ≡ number_of Done) ⊎ (number_of status ≡ number_of NoMemory)
+    ended held left written Done sound ends reads writes = inl refl
+    ended held left written NoMemory sound ends reads writes = inr refl
+    ended held left written IsRefusedStatus sound ends reads writes = absurd (sound.sound ends.text ends.number ends.place ends.word ends.refused)
+    ended held left written TooLong sound ends reads writes = absurd (sound.within ends.past)
+    ended held left written SourceFault sound ends reads writes = absurd (reads refl)
+    ended held left written SinkFault sound ends reads writes = absurd (writes refl)
+    ended held left written Usage sound ends reads writes = absurd ends

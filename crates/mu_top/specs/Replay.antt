@@ -66,6 +66,16 @@ Replays source source' sink sink' status =
 abbrev pub Replayed : (source source' sink sink' : Option (List ℕ)) → ℕ → Type 0
 Replayed source source' sink sink' number = (status : Status) × (number ≡ number_of status) × Replays source source' sink sink' status
 
+-- a script of which no line is refused, and that passes no limit
+pub record IsSound (held : List ℕ) : Type 0 where
+  pub within : IsPast held → ⊥
+  pub sound : (text : List ℕ) (number place : ℕ) (word : List ℕ) → Refuses (lines_done held) text number place word → ⊥
+
+-- a sound script is done whole, or memory is wanting
+abbrev pub Completes : (source source' sink sink' : Option (List ℕ)) → ℕ → Type 0
+Completes source source' sink sink' number =
+    WhereTold source source' (λ held left. WhereTold sink sink' (λ before after. IsSound held → (number ≡ number_of Done) ⊎ (number ≡ number_of NoMemory)))
+
 -- what is written of a refusal's line, by the status
 abbrev pub Told : (sink sink' : Option (List ℕ)) (text : List ℕ) → Status → Type 0
 Told sink sink' text Refused = WhereTold sink sink' (λ before after. after ≡ before ++ text)

@@ -1,7 +1,7 @@
 // The one call of the program.
 ghost use Rattle.std.specs.Prelude.{◌≡◌, ◌↔◌, None, Some};
 ghost use Rattle.mu_model_flash.specs.Cause.{Rose};
-ghost use Rattle.mu_top.specs.Replay.{Replayed};
+ghost use Rattle.mu_top.specs.Replay.{Replayed, Completes};
 ghost use Rattle.mu_top.specs.Words.{command_of, Replay};
 
 use crate::replay::replay;
@@ -27,12 +27,16 @@ pub fn top<S: Source, K: Sink, F: Flash, L: Link, C: Clock>(
     source: &mut S,
     sink: &mut K,
     flash: F,
-    _link: &mut L,
-    _clock: &mut C,
+    link: &mut L,
+    clock: &mut C,
 ) -> Ended<F>
     // `replay` writes the model's run.
     ensures replay { command_of words.now ≡ Some Replay
         → Replayed (S.left source.old) (S.left source.new) (K.written sink.old) (K.written sink.new) result.status }
+
+    // A sound script from a source and to a sink that don't fail is done whole, unless memory is wanting.
+    ensures complete { command_of words.now ≡ Some Replay → (Rose (S.faults source.old) (S.faults source.new) → ⊥) → (Rose (K.faults sink.old) (K.faults sink.new) → ⊥)
+        → Completes (S.left source.old) (S.left source.new) (K.written sink.old) (K.written sink.new) result.status }
 
     // 2 exactly where the words are no command, and then nothing was done.
     ensures usage { (result.status ≡ 2) ↔ (command_of words.now ≡ None) }
@@ -44,8 +48,8 @@ pub fn top<S: Source, K: Sink, F: Flash, L: Link, C: Clock>(
 
     // What a command doesn't use comes back untouched.
     ensures flash { result.flash ≡ flash }
-    ensures link { _link.new ≡ _link.old }
-    ensures clock { _clock.new ≡ _clock.old }
+    ensures link { link.new ≡ link.old }
+    ensures clock { clock.new ≡ clock.old }
 {
     let status = match read_words(words) {
         None => Status::Usage,

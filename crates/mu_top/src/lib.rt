@@ -10,6 +10,8 @@ mod node;
 mod reader;
 mod replay;
 mod status;
+#[cfg(test)]
+mod tests;
 mod words;
 mod world;
 mod writing;

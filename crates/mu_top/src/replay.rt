@@ -4,7 +4,8 @@ ghost use Rattle.mu_model_flash.specs.Cause.{Rose};
 ghost use Rattle.mu_model_script.specs.Texts.{refused_text};
 ghost use Rattle.mu_model_world.specs.World.{new_world};
 ghost use Rattle.mu_top.specs.LineDone.{word_of, EndsAt};
-ghost use Rattle.mu_top.specs.Replay.{Replays, Told};
+ghost use Rattle.mu_top.specs.Replay.{Completes, Replays, Told};
+ghost use Rattle.mu_top.specs.Status.{number_of};
 
 use crate::line::{LineStop, Why, do_line};
 use crate::lines::Lines;
@@ -104,6 +105,8 @@ fn run<S: Source, K: Sink>(
 /// Runs the script that the source gives, line by line, and writes its trace.
 pub(crate) fn replay<S: Source, K: Sink>(alloc: Global, source: &mut S, sink: &mut K) -> Status
     ensures replays { Replays (S.left source.old) (S.left source.new) (K.written sink.old) (K.written sink.new) result }
+    ensures complete { (Rose (S.faults source.old) (S.faults source.new) → ⊥) → (Rose (K.faults sink.old) (K.faults sink.new) → ⊥)
+        → Completes (S.left source.old) (S.left source.new) (K.written sink.old) (K.written sink.new) (number_of result) }
     ensures source { result ≡ Status.SourceFault → Rose (S.faults source.old) (S.faults source.new) }
     ensures sink { result ≡ Status.SinkFault → Rose (K.faults sink.old) (K.faults sink.new) }
     ensures command { result ≢ Status.Usage }

@@ -5,7 +5,7 @@ use Rattle.mu_model_flash.proofs.Compose.{broke_more}
 use Rattle.mu_model_flash.proofs.Readings.{broke_runs}
 use Rattle.mu_model_record.specs.Code.{coded}
 use Rattle.mu_model_record.proofs.CodeLemmas.{length-coded}
-use Rattle.mu_cells.proofs.TurnLemmas.{page_runs, page_operations, erased_reads}
+use Rattle.mu_cells.proofs.TurnLemmas.{page_runs, write_stays, page_operations, erased_reads}
 use Rattle.mu_cells.proofs.page.write_page.Goals as goal
 
 pub returns-in_err-erase-clause-operations : goal.returns-in_err-erase-clause-operations
@@ -36,3 +36,13 @@ pub returns-clause-cuts : goal.returns-clause-cuts
 returns-clause-cuts g c safe long =
     let many : length c.args.octets.now ≡ 2048 = search rules in
     page_runs _ (g.met.F.Flash.sound c.args.flash.now) _ c.program.result c.args.page _ c.requires.within many (λ i. c.fits-octets i) long safe (returns-clause-operations g c)
+
+pub returns-in_err-erase-clause-outside : goal.returns-in_err-erase-clause-outside
+returns-in_err-erase-clause-outside g c =
+    let many : length c.args.octets.now ≡ 2048 = search rules in
+    write_stays _ (g.met.F.Flash.sound c.args.flash.now) _ c.from_residual.result c.args.page _ c.requires.within many (returns-in_err-erase-clause-operations g c)
+
+pub returns-clause-outside : goal.returns-clause-outside
+returns-clause-outside g c =
+    let many : length c.args.octets.now ≡ 2048 = search rules in
+    write_stays _ (g.met.F.Flash.sound c.args.flash.now) _ c.program.result c.args.page _ c.requires.within many (returns-clause-operations g c)
