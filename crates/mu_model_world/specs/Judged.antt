@@ -1,5 +1,5 @@
 -- What stands against a line of a script in a world.
-use Rattle.std.specs.Prelude.{ℕ, ◌*◌, ◌<◌, nat_lt, nat_le, ◌||◌, Bool, true, false, List, [], ◌∷◌, length, is_some, slice_get, Option, Some, None, Result, Ok, Err, if◌then◌else◌}
+use Rattle.std.specs.Prelude.{ℕ, ◌*◌, nat_lt, nat_le, ◌||◌, List, length, is_some, slice_get, Option, Some, None, Result, Ok, Err, if◌then◌else◌}
 use Rattle.mu_model_wire.specs.Packet.{Packet}
 use Rattle.mu_model_node.specs.Node.{page_octets, is_addressee}
 use Rattle.mu_model_script.specs.declared.LineFault.{LineFault}

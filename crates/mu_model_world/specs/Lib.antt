@@ -2,3 +2,4 @@ pub mod World
 pub mod Outcomes
 pub mod Judged
 pub mod Run
+pub mod Laws

@@ -1,11 +1,10 @@
 -- What an event makes of a world, and what is printed: all that may come of it.
-use Rattle.std.specs.Prelude.{ℕ, ◌+◌, nat_eq, Bool, true, false, List, [], ◌∷◌, ◌++◌, length, slice_get, Contains, Option, Some, None, if◌then◌else◌}
-use Rattle.std.specs.List.{concat}
+use Rattle.std.specs.Prelude.{ℕ, ◌+◌, nat_eq, true, List, [], ◌∷◌, ◌++◌, length, slice_get, Contains, Option, Some, None, if◌then◌else◌}
 use Rattle.std.specs.Map.{set_value}
 use Rattle.mu_model_wire.specs.Packet.{Packet}
 use Rattle.mu_model_image.specs.Meta.{Image, image_of}
 use Rattle.mu_model_image.specs.Made.{made_image}
-use Rattle.mu_model_node.specs.Node.{NodeState, new_node, restarted}
+use Rattle.mu_model_node.specs.Node.{new_node, restarted}
 use Rattle.mu_model_node.specs.Step.{NodeStep, PacketComes, node_step}
 use Rattle.mu_model_script.specs.Tokens.{Content, Hex, Made}
 use Rattle.mu_model_script.specs.Event.{Event, Node, Say, Deliver, Active}

@@ -10,6 +10,7 @@ use Rattle.mu_model_script.specs.Texts.{refused_text}
 use Rattle.mu_model_script.specs.Lines.{line_event}
 use Rattle.mu_model_world.specs.World.{World, new_world}
 use Rattle.mu_model_world.specs.Judged.{judged, Refused}
+use Rattle.mu_model_world.specs.Laws.{RefusedHasNoTrace}
 use Rattle.mu_model_world.specs.Run.{Step, Run, Prints, Refuses}
 use Rattle.mu_top.specs.Reading.{IsPart, Reader, to_come, WhereTold, IsAtRest, NextLine, GivesLine, Took, Wrote, WroteSome}
 use Rattle.mu_top.specs.declared.reader.Next.{Next}
@@ -22,7 +23,7 @@ use Rattle.mu_top.proofs.Told.{Both, both_map, both_source, both_sink, where_tol
 use Rattle.mu_top.specs.declared.line.LineStop.{LineStop}
 use Rattle.mu_top.specs.declared.line.LineStop.TheVariants.{Memory, Refused as RefusedLine}
 use Rattle.mu_top.specs.LineDone.{word_of, Stops, EndsAt}
-use Rattle.mu_top.specs.Replay.{ReplayEnds, Replays, Completes, IsSound, Told, IsWhole, IsRefused, IsTooLong, IsInPart, IsTraceOfSome, IsBeginning}
+use Rattle.mu_top.specs.Replay.{ReplayEnds, Replays, Completes, EndsAsItMust, Told, IsWhole, IsRefused, IsTooLong, IsInPart, IsTraceOfSome, IsBeginning}
 use Rattle.mu_top.proofs.Cuts.{lines_in_front, lines_in_end, lines_in_line, lines_in_last, BeginsLong, lines_in_long, lines_in_part, lines_in_more, pieces_at, pieces_ended, pieces_part, ended_front}
 
 -- Between two lines: the octets of the input that are done and those to come, how many lines are done, the world that they
@@ -447,21 +448,35 @@ only_line Line a b = refl
 only_line Last a b = absurd (b refl)
 only_line End a b = absurd (a refl)
 
--- ---- a sound script
+-- ---- where neither the source nor the sink fails
 
--- where the source and the sink don't fail, it is done whole, or memory is wanting
-pub completes : (source source' sink sink' : Option (List ℕ)) (status : Status) → Replays source source' sink sink' status → (status ≡ SourceFault → ⊥) → (status ≡ SinkFault → ⊥)
+ended : (held left written : List ℕ) (status : Status) → RefusedHasNoTrace → ReplayEnds held left written status → (status ≡ SourceFault → ⊥) → (status ≡ SinkFault → ⊥) → EndsAsItMust held (number_of status)
+ended held left written Done law ends reads writes = record {
+  sound = λ within none. inl refl;
+  refused = λ text line place word refuses. absurd (law (lines_done held) text written line place word refuses ends.trace);
+  too_long = λ past none. absurd (ends.within past);
+}
+ended held left written NoMemory law ends reads writes = record {
+  sound = λ within none. inr refl;
+  refused = λ text line place word refuses. inr refl;
+  too_long = λ past none. inr refl;
+}
+ended held left written IsRefusedStatus law ends reads writes = record {
+  sound = λ within none. absurd (none ends.text ends.number ends.place ends.word ends.refused);
+  refused = λ text line place word refuses. inl refl;
+  too_long = λ past none. absurd (none ends.text ends.number ends.place ends.word ends.refused);
+}
+ended held left written TooLong law ends reads writes = record {
+  sound = λ within none. absurd (within ends.past);
+  refused = λ text line place word refuses. absurd (law (lines_done held) text written line place word refuses ends.trace);
+  too_long = λ past none. inl refl;
+}
+ended held left written SourceFault law ends reads writes = absurd (reads refl)
+ended held left written SinkFault law ends reads writes = absurd (writes refl)
+ended held left written Usage law ends reads writes = absurd ends
+
+pub completes : (source source' sink sink' : Option (List ℕ)) (status : Status) → RefusedHasNoTrace → Replays source source' sink sink' status → (status ≡ SourceFault → ⊥) → (status ≡ SinkFault → ⊥)
     → Completes source source' sink sink' (number_of status)
-completes source source' sink sink' status replays reads writes =
+completes source source' sink sink' status law replays reads writes =
     where_told source source' _ _ (λ held left p.
-        where_told sink sink' _ _ (λ before after q. λ sound. ended held left q.0 status sound q.2 reads writes) p) replays
-  where
-    ended : (held left written : List ℕ) (status : Status) → IsSound held → ReplayEnds held left written status → (status ≡ SourceFault → ⊥) → (status ≡ SinkFault → ⊥)
-        → (number_of status ≡ number_of Done) ⊎ (number_of status ≡ number_of NoMemory)
-    ended held left written Done sound ends reads writes = inl refl
-    ended held left written NoMemory sound ends reads writes = inr refl
-    ended held left written IsRefusedStatus sound ends reads writes = absurd (sound.sound ends.text ends.number ends.place ends.word ends.refused)
-    ended held left written TooLong sound ends reads writes = absurd (sound.within ends.past)
-    ended held left written SourceFault sound ends reads writes = absurd (reads refl)
-    ended held left written SinkFault sound ends reads writes = absurd (writes refl)
-    ended held left written Usage sound ends reads writes = absurd ends
+        where_told sink sink' _ _ (λ before after q. ended held left q.0 status law q.2 reads writes) p) replays

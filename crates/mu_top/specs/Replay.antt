@@ -66,15 +66,23 @@ Replays source source' sink sink' status =
 abbrev pub Replayed : (source source' sink sink' : Option (List ℕ)) → ℕ → Type 0
 Replayed source source' sink sink' number = (status : Status) × (number ≡ number_of status) × Replays source source' sink sink' status
 
--- a script of which no line is refused, and that passes no limit
-pub record IsSound (held : List ℕ) : Type 0 where
-  pub within : IsPast held → ⊥
-  pub sound : (text : List ℕ) (number place : ℕ) (word : List ℕ) → Refuses (lines_done held) text number place word → ⊥
+-- in each run, no line is refused
+abbrev pub NoneRefused : List ℕ → Type 0
+NoneRefused held = (text : List ℕ) (number place : ℕ) (word : List ℕ) → Refuses (lines_done held) text number place word → ⊥
 
--- a sound script is done whole, or memory is wanting
+-- this status, unless memory is wanting
+abbrev pub OrNoMemory : Status → ℕ → Type 0
+OrNoMemory status number = (number ≡ number_of status) ⊎ (number ≡ number_of NoMemory)
+
+-- how a script ends that is read to its end or to its first fault, and whose trace can be written
+pub record EndsAsItMust (held : List ℕ) (number : ℕ) : Type 0 where
+  pub sound : (IsPast held → ⊥) → NoneRefused held → OrNoMemory Done number
+  pub refused : (text : List ℕ) (line place : ℕ) (word : List ℕ) → Refuses (lines_done held) text line place word → OrNoMemory Refused number
+  pub too_long : IsPast held → NoneRefused held → OrNoMemory TooLong number
+
+-- the same of what a source and a sink tell
 abbrev pub Completes : (source source' sink sink' : Option (List ℕ)) → ℕ → Type 0
-Completes source source' sink sink' number =
-    WhereTold source source' (λ held left. WhereTold sink sink' (λ before after. IsSound held → (number ≡ number_of Done) ⊎ (number ≡ number_of NoMemory)))
+Completes source source' sink sink' number = WhereTold source source' (λ held left. WhereTold sink sink' (λ before after. EndsAsItMust held number))
 
 -- what is written of a refusal's line, by the status
 abbrev pub Told : (sink sink' : Option (List ℕ)) (text : List ℕ) → Status → Type 0

@@ -14,6 +14,7 @@ use crate::status::Status;
 use crate::world::World;
 use crate::writing::write_all;
 use mu_model_script::LineWhy;
+use mu_model_world::laws::runs;
 use mu_outside::{Sink, Source};
 use std::alloc::Global;
 
@@ -114,5 +115,6 @@ pub(crate) fn replay<S: Source, K: Sink>(alloc: Global, source: &mut S, sink: &m
     let mut world = World::new(alloc);
     let mut reader = LineReader::new();
     let mut lines = Lines::new(alloc);
+    runs();
     run(&mut world, &mut reader, &mut lines, source, sink)
 }
