@@ -1,8 +1,9 @@
 -- What holds of code words and of the words of a page.
-use Rattle.std.specs.Prelude.{◌≡◌, ◌⊎◌, ℕ, List, length}
+use Rattle.std.specs.Prelude.{◌≡◌, ◌⊎◌, ℕ, ◌+◌, ◌*◌, ◌<◌, ◌≤◌, List, length}
 use Rattle.mu_model_flash.specs.Bits.{AreOctets, blank, Between}
 use Rattle.mu_model_record.specs.Code.{coded, IsCodeWord, content_of, HasPairOfOnes}
-use Rattle.mu_model_record.specs.Page.{format_of, Word, whole, slot, IsWord, IsSafePage, IsDead, PageFades, CanWriteSlot, SlotChanges}
+use Rattle.mu_model_record.specs.Page.{page_of, slot_of, slot_in, format_of, Word, whole, slot, IsWord, IsSafePage, IsDead, PageFades, CanWriteSlot, SlotChanges}
+use Rattle.mu_model_record.specs.Turns.{before, after, PageTurns, SlotTurns}
 
 -- what is coded is a code word, and is read back
 abbrev pub CodedIsReadBack : Type 0
@@ -47,3 +48,17 @@ WrittenSlotHasItsWord =
 abbrev pub WrittenSlotIsSafe : Type 0
 WrittenSlotIsSafe =
     (old new : List ℕ) (k : ℕ) (octets : List ℕ) → length octets ≡ 512 → AreOctets octets → IsSafePage old → CanWriteSlot old k → SlotChanges old new k octets → IsSafePage new
+
+-- what an operation leaves of the octets of a flash, as what it leaves of the page
+abbrev pub TurnsOfAPage : Type 0
+TurnsOfAPage =
+    (old image octets : List ℕ) (page : ℕ) → 4096 * page + 4096 ≤ length old → length octets ≡ 2048
+    → PageTurns old page octets after image → page_of image page ≡ coded octets
+
+abbrev pub TurnsOfASlot : Type 0
+TurnsOfASlot =
+    (old image octets : List ℕ) (page k : ℕ) → 4096 * page + 4096 ≤ length old → k < 4 → length octets ≡ 512
+    → SlotTurns old page k octets before image ⊎ SlotTurns old page k octets after image → SlotChanges (page_of old page) (page_of image page) k octets
+
+abbrev pub SlotsOfAPage : Type 0
+SlotsOfAPage = (octets : List ℕ) (page k : ℕ) → 4096 * page + 4096 ≤ length octets → k < 4 → slot_in (page_of octets page) k ≡ slot_of octets page k
