@@ -1,7 +1,7 @@
 -- Pages and slots among the octets of a flash.
-use Rattle.std.proofs.Common.{◌≡◌, ◌≢◌, ◌⊎◌, inl, inr, ⊎_elim, ℕ, ◌+◌, ◌-◌, ◌*◌, ◌<◌, ◌≤◌, List, length, get_or, sym, ◌∙◌, ap, subst, arith}
+use Rattle.std.proofs.Common.{◌≡◌, ◌⊎◌, inl, inr, ⊎_elim, ℕ, ◌+◌, ◌*◌, ◌<◌, ◌≤◌, List, length, get_or, sym, ◌∙◌, ap, subst, arith}
 use Rattle.std.proofs.lemmas.List.{ext_get_or}
-use Rattle.mu_model_flash.specs.Bits.{written, part_of, SameOutside}
+use Rattle.mu_model_flash.specs.Bits.{part_of, SameOutside}
 use Rattle.mu_model_flash.proofs.RangeLemmas.{length-part, get-part, part-written, outside-written, part-outside}
 use Rattle.mu_model_record.specs.Code.{coded, HasPairOfOnes}
 use Rattle.mu_model_record.specs.Page.{page_of, slot_of, slot_place, slot_in, SlotChanges}
@@ -15,12 +15,12 @@ part-part c at n p m within inner =
     let here : length (part_of (part_of c at n) p m) ≡ m = length-part (part_of c at n) p m (omega (arith, whole, inner)) in
     let there : length (part_of c (at + p) m) ≡ m = length-part c (at + p) m (omega (arith, within, inner)) in
     ext_get_or 0 (part_of (part_of c at n) p m) (part_of c (at + p) m) (here ∙ sym there) (λ i lt.
-      let low : i < m = omega (arith, lt, here) in
-      let place : at + (p + i) ≡ at + p + i = omega arith in
-      get-part (part_of c at n) p m i low
-      ∙ get-part c at n (p + i) (omega (arith, low, inner))
-      ∙ ap (λ (k : ℕ). get_or c k 0) place
-      ∙ sym (get-part c (at + p) m i low))
+    let low : i < m = omega (arith, lt, here) in
+    let place : at + (p + i) ≡ at + p + i = omega arith in
+    get-part (part_of c at n) p m i low
+    ∙ get-part c at n (p + i) (omega (arith, low, inner))
+    ∙ ap (λ (k : ℕ). get_or c k 0) place
+    ∙ sym (get-part c (at + p) m i low))
 
 pub slot-of-page : (octets : List ℕ) (page k : ℕ) → 4096 * page + 4096 ≤ length octets → k < 4 → slot_in (page_of octets page) k ≡ slot_of octets page k
 slot-of-page octets page k within lt = part-part octets (4096 * page) 4096 (1024 * k) 1024 within (omega (arith, lt))
@@ -60,7 +60,7 @@ module _ (old image octets : List ℕ) (page k : ℕ) (within : 4096 * page + 40
       record {
         others = λ j j_lt ne. slot-of-page image page j (there out) j_lt ∙ part-outside old image (slot_place page k) 1024 out (slot_place page j) 1024 (apart j j_lt ne) (omega (arith, within, j_lt)) ∙ sym (slot-of-page old page j within j_lt);
         this_one = ⊎_elim
-          (λ ones. inl (subst (λ (s : List ℕ). HasPairOfOnes s) (sym same) ones))
-          (λ is. inr (same ∙ is))
-          (this_one turns);
+            (λ ones. inl (subst (λ (s : List ℕ). HasPairOfOnes s) (sym same) ones))
+            (λ is. inr (same ∙ is))
+            (this_one turns);
       }

@@ -2,7 +2,7 @@
 use Rattle.std.specs.Prelude.{◌≡◌, ◌⊎◌, ℕ, ◌+◌, ◌*◌, ◌<◌, ◌≤◌, List, length}
 use Rattle.mu_model_flash.specs.Bits.{AreOctets, blank, Between}
 use Rattle.mu_model_record.specs.Code.{coded, IsCodeWord, content_of, HasPairOfOnes}
-use Rattle.mu_model_record.specs.Page.{page_of, slot_of, slot_in, format_of, Word, whole, slot, IsWord, IsSafePage, IsDead, PageFades, CanWriteSlot, SlotChanges}
+use Rattle.mu_model_record.specs.Page.{page_of, slot_of, slot_in, format_of, Word, page_word, slot_word, IsWord, IsSafePage, IsDead, PageFades, CanWriteSlot, SlotChanges}
 use Rattle.mu_model_record.specs.Turns.{before, after, PageTurns, SlotTurns}
 
 -- what is coded is a code word, and is read back
@@ -22,8 +22,8 @@ abbrev pub TornEraseFades : Type 0
 TornEraseFades = (old new : List ℕ) → length old ≡ 4096 → IsSafePage old → Between old (blank 4096) new → PageFades old new
 
 -- what fades has no word that wasn't there, and is safe
-abbrev pub NoNewWord : Type 0
-NoNewWord = (old new : List ℕ) → PageFades old new ⊎ IsDead new → (word : Word) → IsWord new word → IsWord old word
+abbrev pub FadedHasNoNewWord : Type 0
+FadedHasNoNewWord = (old new : List ℕ) → PageFades old new ⊎ IsDead new → (word : Word) → IsWord new word → IsWord old word
 
 abbrev pub FadedIsSafe : Type 0
 FadedIsSafe = (old new : List ℕ) → IsSafePage old → PageFades old new ⊎ IsDead new → IsSafePage new
@@ -31,7 +31,7 @@ FadedIsSafe = (old new : List ℕ) → IsSafePage old → PageFades old new ⊎ 
 -- a page that is written whole has its octets as its one word
 abbrev pub WrittenPageHasItsWord : Type 0
 WrittenPageHasItsWord =
-    (octets : List ℕ) (word : Word) → length octets ≡ 2048 → AreOctets octets → format_of octets ≡ 1 → IsWord (coded octets) word → word ≡ whole octets
+    (octets : List ℕ) (word : Word) → length octets ≡ 2048 → AreOctets octets → format_of octets ≡ 1 → IsWord (coded octets) word → word ≡ page_word octets
 
 -- a program of such a page that is cut short leaves it whole or without a word
 abbrev pub TornPageIsWholeOrDead : Type 0
@@ -42,7 +42,7 @@ TornPageIsWholeOrDead =
 abbrev pub WrittenSlotHasItsWord : Type 0
 WrittenSlotHasItsWord =
     (old new : List ℕ) (k : ℕ) (octets : List ℕ) → length octets ≡ 512 → AreOctets octets → CanWriteSlot old k → SlotChanges old new k octets
-    → (word : Word) → IsWord new word → IsWord old word ⊎ (word ≡ slot k octets)
+    → (word : Word) → IsWord new word → IsWord old word ⊎ (word ≡ slot_word k octets)
 
 -- and leaves it safe
 abbrev pub WrittenSlotIsSafe : Type 0
