@@ -9,10 +9,12 @@ use Rattle.mu_model_flash.proofs.RangeLemmas.{length-part, get-part, range-part,
 use Rattle.mu_model_flash.proofs.Readings.{runs_as, one_operation, refines_same}
 use Rattle.mu_model_flash.proofs.Compose.{told_back}
 use Rattle.mu_model_record.specs.Code.{coded, content_of, IsCodeWord, HasPairOfOnes}
-use Rattle.mu_model_record.specs.Page.{page_of, slot_of, slot_place, format_of, IsSafePage, PageFades}
-use Rattle.mu_model_record.specs.Turns.{before, after, PageErases, PageTurns, SlotTurns, MarkTurns, StaysOutside}
+use Rattle.mu_model_record.specs.Page.{page_of, slot_of, slot_place, format_of, page_word, slot_word, IsWord, IsSafePage, PageFades, CanWriteSlot}
+use Rattle.mu_model_record.specs.Turns.{Turn, before, after, PageErases, PageTurns, SlotTurns, MarkTurns, StaysOutside, NoNewWord, NoOtherWord}
 use Rattle.mu_model_record.proofs.CodeLemmas.{length-coded, coded_is}
-use Rattle.mu_model_record.proofs.PageLemmas.{torn_code, torn_erase, torn_program, erased_fades, fades_same, ff_pair}
+use Rattle.mu_model_record.proofs.PageLemmas.{torn_code, torn_erase, torn_program, erased_fades, fades_same, ff_pair, no_new_word, written_word}
+use Rattle.mu_model_record.proofs.SlotLemmas.{slot_words as one_slot_words}
+use Rattle.mu_model_record.proofs.PlaceLemmas.{page_turned, slot_turned}
 
 -- pages
 module _ (old : List ℕ) (page : ℕ) (within : 4096 * page + 4096 ≤ length old) where
@@ -123,6 +125,37 @@ module _ (old : List ℕ) (page slot : ℕ) (within : slot_place page slot + 102
   pub slot_turns : Refines exact (either (SlotTurns old page slot octets)) old (written old (slot_place page slot) (coded octets) ∷ []) before (after ∷ [])
   slot_turns = (λ c is. slot_still c is, λ c torn. slot_torn c torn, λ c is. is)
 
+-- the words of a page
+module _ (old : List ℕ) (page : ℕ) (within : 4096 * page + 4096 ≤ length old) where
+  erase_word : (t : Turn) (c : List ℕ) → PageErases old page t c → NoNewWord old page tt c
+  erase_word before c turned word is = no_new_word (page_of old page) (page_of c page) (inl turned.1) word is
+  erase_word after c turned word is =
+      no_new_word (page_of old page) (page_of c page) (inl (subst (λ (p : List ℕ). PageFades (page_of old page) p) (sym (ap (λ (o : List ℕ). page_of o page) turned ∙ erased_page old page within)) (erased_fades (page_of old page)))) word is
+
+  pub erase_words : Refines (either (PageErases old page)) (either (NoNewWord old page)) before (after ∷ []) tt (tt ∷ [])
+  erase_words = (erase_word before, λ c torn. inl (⊎_elim (erase_word before c) (erase_word after c) torn), erase_word after)
+
+  module _ (octets : List ℕ) (many : length octets ≡ 2048) (small : AreOctets octets) (long : format_of octets ≡ 1) where
+    page_new : (t : Turn) (c : List ℕ) → PageTurns old page octets t c → NoOtherWord old page (page_word octets) tt c
+    page_new before c turned word is = inl (no_new_word (page_of old page) (page_of c page) turned.1 word is)
+    page_new after c turned word is =
+        inr (written_word octets many small long word (subst (λ (p : List ℕ). IsWord p word) (page_turned old c octets page within many turned) is))
+
+    pub page_words : Refines (either (PageTurns old page octets)) (either (NoOtherWord old page (page_word octets))) before (before ∷ after ∷ []) tt (tt ∷ tt ∷ [])
+    page_words = (
+      page_new before,
+      λ c torn. inl (⊎_elim (page_new before c) (page_new before c) torn),
+      (page_new before, λ c torn. inl (⊎_elim (page_new before c) (page_new after c) torn), page_new after),
+    )
+
+  module _ (k : ℕ) (octets : List ℕ) (lt : k < 4) (many : length octets ≡ 512) (small : AreOctets octets) (can : CanWriteSlot (page_of old page) k) where
+    slot_new : (t : Turn) (c : List ℕ) → SlotTurns old page k octets t c → NoOtherWord old page (slot_word k octets) tt c
+    slot_new before c turned word is = one_slot_words (page_of old page) (page_of c page) k octets small can (slot_turned old c octets page k within lt many (inl turned)) word is
+    slot_new after c turned word is = one_slot_words (page_of old page) (page_of c page) k octets small can (slot_turned old c octets page k within lt many (inr turned)) word is
+
+    pub slot_words : Refines (either (SlotTurns old page k octets)) (either (NoOtherWord old page (slot_word k octets))) before (after ∷ []) tt (tt ∷ [])
+    slot_words = (slot_new before, λ c torn. inl (⊎_elim (slot_new before c) (slot_new after c) torn), slot_new after)
+
 -- marks
 module _ (old : List ℕ) (at : ℕ) (within : at + 1 ≤ length old) (is_unset : get_or old at 0 ≡ 255) where
   pub mark_turns : Refines exact (either (MarkTurns old at)) old (written old at (254 ∷ []) ∷ []) before (after ∷ [])
@@ -201,6 +234,22 @@ module _ (a : Seen) (sound : IsSound a) where
     slot_runs page slot octets lies few many small is_blank r =
         runs_as exact (either (SlotTurns a.octets page slot octets)) a.octets (written a.octets (slot_place page slot) (coded octets) ∷ []) before (after ∷ []) a c result refl
         (λ told. slot_turns a.octets page slot (slot_within page slot lies few told) (is_blank told) octets many small) r
+
+    pub erase_word_runs : (page : ℕ) → page < a.pages → Runs (either (PageErases a.octets page)) before (after ∷ []) a c result → Runs (either (NoNewWord a.octets page)) tt (tt ∷ []) a c result
+    erase_word_runs page lies r =
+        runs_as (either (PageErases a.octets page)) (either (NoNewWord a.octets page)) before (after ∷ []) tt (tt ∷ []) a c result refl (λ told. erase_words a.octets page (within_told page lies told)) r
+
+    pub page_word_runs : (page : ℕ) (octets : List ℕ) → page < a.pages → length octets ≡ 2048 → AreOctets octets → format_of octets ≡ 1
+        → Runs (either (PageTurns a.octets page octets)) before (before ∷ after ∷ []) a c result → Runs (either (NoOtherWord a.octets page (page_word octets))) tt (tt ∷ tt ∷ []) a c result
+    page_word_runs page octets lies many small long r =
+        runs_as (either (PageTurns a.octets page octets)) (either (NoOtherWord a.octets page (page_word octets))) before (before ∷ after ∷ []) tt (tt ∷ tt ∷ []) a c result refl
+        (λ told. page_words a.octets page (within_told page lies told) octets many small long) r
+
+    pub slot_word_runs : (page k : ℕ) (octets : List ℕ) → page < a.pages → k < 4 → length octets ≡ 512 → AreOctets octets → (IsTrue a.told → CanWriteSlot (page_of a.octets page) k)
+        → Runs (either (SlotTurns a.octets page k octets)) before (after ∷ []) a c result → Runs (either (NoOtherWord a.octets page (slot_word k octets))) tt (tt ∷ []) a c result
+    slot_word_runs page k octets lies lt many small can r =
+        runs_as (either (SlotTurns a.octets page k octets)) (either (NoOtherWord a.octets page (slot_word k octets))) before (after ∷ []) tt (tt ∷ []) a c result refl
+        (λ told. slot_words a.octets page (within_told page lies told) k octets lt many small (can told)) r
 
     pub mark_runs : (at : ℕ) → at < 4096 * a.pages → (IsTrue a.told → get_or a.octets at 0 ≡ 255) → Runs exact a.octets (written a.octets at (254 ∷ []) ∷ []) a c result
         → Runs (either (MarkTurns a.octets at)) before (after ∷ []) a c result

@@ -5,8 +5,8 @@ ghost use Rattle.mu_model_flash.specs.Cause.{HasCause};
 ghost use Rattle.mu_model_flash.specs.Flash.{Unchanged};
 ghost use Rattle.mu_model_flash.specs.Run.{exact, either, Runs};
 ghost use Rattle.mu_model_record.specs.Code.{coded, IsCodeWord, content_of};
-ghost use Rattle.mu_model_record.specs.Page.{page_of, format_of, IsSafePage};
-ghost use Rattle.mu_model_record.specs.Turns.{before, after, PageErases, PageTurns, StaysOutside};
+ghost use Rattle.mu_model_record.specs.Page.{page_of, format_of, page_word, IsSafePage};
+ghost use Rattle.mu_model_record.specs.Turns.{before, after, PageErases, PageTurns, StaysOutside, NoNewWord, NoOtherWord};
 
 use crate::code::{decode, encode};
 use mu_outside::{Failed, Flash};
@@ -22,9 +22,11 @@ pub fn erase_page<F: Flash>(flash: &mut F, page: u32) -> Result<(), Failed>
     // In every image all octets outside the page are as before.
     ensures outside { Runs (either (StaysOutside (4096 * page) 4096 (F.seen flash.old).octets)) tt (tt ∷ []) (F.seen flash.old) (F.seen flash.new) result }
 
-    // In every image the page has no word that it hadn't.
+    // In every image each word of the page is as it was or gone; so there is no word that wasn't there.
     ensures cuts { (IsTrue (F.seen flash.old).told → IsSafePage (page_of (F.seen flash.old).octets page))
         → Runs (either (PageErases (F.seen flash.old).octets page)) before (after ∷ []) (F.seen flash.old) (F.seen flash.new) result }
+    ensures words { (IsTrue (F.seen flash.old).told → IsSafePage (page_of (F.seen flash.old).octets page))
+        → Runs (either (NoNewWord (F.seen flash.old).octets page)) tt (tt ∷ []) (F.seen flash.old) (F.seen flash.new) result }
     ensures cause { HasCause (F.seen flash.old).faults (F.seen flash.new).faults result }
 {
     flash.erase(page)
@@ -43,9 +45,12 @@ pub fn write_page<F: Flash>(flash: &mut F, page: u32, octets: &[u8; 2048]) -> Re
     // In every image all octets outside the page are as before.
     ensures outside { Runs (either (StaysOutside (4096 * page) 4096 (F.seen flash.old).octets)) tt (tt ∷ tt ∷ []) (F.seen flash.old) (F.seen flash.new) result }
 
-    // In every image the page has no word that it hadn't but the new one. The octets are those of a long record.
+    // In every image each word of the page is as it was or gone, or there is none, or the page holds the new octets; so there is no word
+    // that wasn't there but the new one. The octets are those of a long record.
     ensures cuts { (IsTrue (F.seen flash.old).told → IsSafePage (page_of (F.seen flash.old).octets page)) → format_of octets.now ≡ 1
         → Runs (either (PageTurns (F.seen flash.old).octets page octets.now)) before (before ∷ after ∷ []) (F.seen flash.old) (F.seen flash.new) result }
+    ensures words { (IsTrue (F.seen flash.old).told → IsSafePage (page_of (F.seen flash.old).octets page)) → format_of octets.now ≡ 1
+        → Runs (either (NoOtherWord (F.seen flash.old).octets page (page_word octets.now))) tt (tt ∷ tt ∷ []) (F.seen flash.old) (F.seen flash.new) result }
     ensures cause { HasCause (F.seen flash.old).faults (F.seen flash.new).faults result }
 {
     let mut word = [0; 4096];

@@ -5,8 +5,8 @@ ghost use Rattle.mu_model_flash.specs.Cause.{HasCause};
 ghost use Rattle.mu_model_flash.specs.Flash.{Unchanged};
 ghost use Rattle.mu_model_flash.specs.Run.{exact, either, Runs};
 ghost use Rattle.mu_model_record.specs.Code.{coded, IsCodeWord, content_of};
-ghost use Rattle.mu_model_record.specs.Page.{slot_of, slot_place};
-ghost use Rattle.mu_model_record.specs.Turns.{before, after, SlotTurns};
+ghost use Rattle.mu_model_record.specs.Page.{page_of, slot_of, slot_place, CanWriteSlot, slot_word};
+ghost use Rattle.mu_model_record.specs.Turns.{before, after, SlotTurns, NoOtherWord};
 
 use crate::code::{decode, encode};
 use crate::page::PAGE;
@@ -29,6 +29,10 @@ pub fn write_slot<F: Flash>(
 
     // In every image the slot is no code word, or holds the new octets.
     ensures cuts { Runs (either (SlotTurns (F.seen flash.old).octets page slot octets.now)) before (after ∷ []) (F.seen flash.old) (F.seen flash.new) result }
+
+    // So there is no word that wasn't there but the new one.
+    ensures words { (IsTrue (F.seen flash.old).told → CanWriteSlot (page_of (F.seen flash.old).octets page) slot)
+        → Runs (either (NoOtherWord (F.seen flash.old).octets page (slot_word slot octets.now))) tt (tt ∷ []) (F.seen flash.old) (F.seen flash.new) result }
     ensures cause { HasCause (F.seen flash.old).faults (F.seen flash.new).faults result }
 {
     let mut word = [0; 1024];

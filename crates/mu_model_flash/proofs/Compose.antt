@@ -6,7 +6,7 @@ use Rattle.mu_model_flash.specs.declared.Pattern.{Pattern}
 use Rattle.mu_model_flash.specs.declared.Pattern.TheVariants.{Old, New, Made}
 use Rattle.mu_model_flash.specs.declared.Armed.{Armed}
 use Rattle.mu_model_flash.specs.Flash.{Seen, ticks, fallen, IsBefore, IsSound, Unchanged}
-use Rattle.mu_model_flash.specs.Run.{Reading, state_at, last_of, Passing, InPart, ByPattern, Keeps, Leaves, Ran, WentOff, Broke, Stopped, Halts}
+use Rattle.mu_model_flash.specs.Run.{Reading, state_at, last_of, Passing, InPart, ByPattern, Keeps, Leaves, Ran, WentOff, Broke, Stopped}
 
 module _ {S : Type 0} (R : Reading S) where
   pub last_append : (s : S) (xs ys : List S) → last_of s (xs ++ ys) ≡ last_of (last_of s xs) ys
@@ -245,12 +245,6 @@ module _ {S : Type 0} (R : Reading S) where
     at_most = omega (arith, bc.at_most, length-append xs ys);
     ran = subst (λ (l : List S). Ran R s l a c) (sym (take-append-add xs ys bc.done)) (then_ran s xs (take bc.done ys) a b c ab bc.ran);
   }
-
-  pub halts_more : (s : S) (xs ys : List S) (ByFlash : Type 0) (a b : Seen) → Halts R s xs ByFlash a b → Halts R s (xs ++ ys) ByFlash a b
-  halts_more s xs ys ByFlash a b h = record { by_flash = λ by. broke_more s xs ys a b (h.by_flash by); otherwise = λ not. stopped_more s xs ys a b (h.otherwise not) }
-
-  pub then_halts : (s : S) (xs ys : List S) (ByFlash : Type 0) (a b c : Seen) → Ran R s xs a b → Halts R (last_of s xs) ys ByFlash b c → Halts R s (xs ++ ys) ByFlash a c
-  then_halts s xs ys ByFlash a b c ab h = record { by_flash = λ by. then_broke s xs ys a b c ab (h.by_flash by); otherwise = λ not. then_stopped s xs ys a b c ab (h.otherwise not) }
 
   -- no operation
   pub nothing : (s : S) (a b : Seen) → IsSound a → Unchanged a b → a.off ≡ false → (IsTrue a.told → R.Is s a.octets) → Ran R s [] a b

@@ -4,8 +4,8 @@ use Rattle.mu_model_flash.specs.declared.Pattern.{Pattern}
 use Rattle.mu_model_flash.specs.declared.Pattern.TheVariants.{Old, New, Made}
 use Rattle.mu_model_flash.specs.declared.Armed.{Armed}
 use Rattle.mu_model_flash.specs.Flash.{Seen, fallen, IsBefore}
-use Rattle.mu_model_flash.specs.Run.{Reading, exact, either, state_at, last_of, Passing, InPart, ByPattern, Refines, Ran, Broke, Stopped, Halts, Runs, Goes}
-use Rattle.mu_model_flash.proofs.Compose.{leaves_more, last_append, told_back, then_ran, then_broke, then_halts, halts_more}
+use Rattle.mu_model_flash.specs.Run.{Reading, exact, either, state_at, last_of, Passing, InPart, ByPattern, Refines, Ran, Broke, Stopped, Runs, Goes, Stops}
+use Rattle.mu_model_flash.proofs.Compose.{leaves_more, last_append, told_back, then_ran, then_broke, broke_more, then_stopped, stopped_more}
 
 module _ {S T : Type 0} (R : Reading S) (Q : Reading T) where
   same_length : (s : S) (xs : List S) (t : T) (ys : List T) → Refines R Q s xs t ys → length xs ≡ length ys
@@ -103,9 +103,6 @@ module _ {S T : Type 0} (R : Reading S) (Q : Reading T) where
     ran = ran_as s (take ab.done xs) t (take ab.done ys) a b (length-take ab.done xs ∙ ap (λ (k : ℕ). min ab.done k) n ∙ sym (length-take ab.done ys)) (λ told. refines_take s xs t ys ab.done (r told)) ab.ran;
   }
 
-  pub halts_as : (s : S) (xs : List S) (t : T) (ys : List T) (ByFlash : Type 0) (a b : Seen) → length xs ≡ length ys → (IsTrue a.told → Refines R Q s xs t ys) → Halts R s xs ByFlash a b → Halts Q t ys ByFlash a b
-  halts_as s xs t ys ByFlash a b n r h = record { by_flash = λ by. broke_as s xs t ys a b n r (h.by_flash by); otherwise = λ not. stopped_as s xs t ys a b n r (h.otherwise not) }
-
 pub refines_same : {S : Type 0} (R : Reading S) (s : S) (xs : List S) → Refines R R s xs s xs
 refines_same R s [] = λ c h. h
 refines_same R s (x ∷ xs) = (λ c h. h, λ c h. h, refines_same R x xs)
@@ -152,18 +149,30 @@ module _ {T X : Type 0} where
 module _ {T X S : Type 0} (R : Reading S) (ok : T → Seen) (err : X → Seen) (Kept : T → S → Type 0) (ByFlash : X → Type 0) where
   pub then_goes : (s : S) (xs ys : List S) (a b : Seen) (result : Result T X) → Ran R s xs a b → Goes R (last_of s xs) ys b ok err Kept ByFlash result → Goes R s (xs ++ ys) a ok err Kept ByFlash result
   then_goes s xs ys a b (Ok t) ab bc = (then_ran R s xs ys a b (ok t) ab bc.0, subst (λ (e : S). Kept t e) (sym (last_append R s xs ys)) bc.1)
-  then_goes s xs ys a b (Err e) ab bc = then_halts R s xs ys (ByFlash e) a b (err e) ab bc
+  then_goes s xs ys a b (Err e) ab bc = λ by. then_broke R s xs ys a b (err e) ab (bc by)
+
+  pub then_stops : (s : S) (xs ys : List S) (a b : Seen) (result : Result T X) → Ran R s xs a b → Stops R (last_of s xs) ys b err ByFlash result → Stops R s (xs ++ ys) a err ByFlash result
+  then_stops s xs ys a b (Ok t) ab bc = tt
+  then_stops s xs ys a b (Err e) ab bc = λ other. then_stopped R s xs ys a b (err e) ab (bc other)
 
   -- what a `?` hands on
-  pub halts_goes : (s : S) (xs ys : List S) (a : Seen) (e : X) (result : Result T X) → result ≡ Err e → Halts R s xs (ByFlash e) a (err e) → Goes R s (xs ++ ys) a ok err Kept ByFlash result
-  halts_goes s xs ys a e result is h = subst (λ (r : Result T X). Goes R s (xs ++ ys) a ok err Kept ByFlash r) (sym is) (halts_more R s xs ys (ByFlash e) a (err e) h)
+  pub broke_goes : (s : S) (xs ys : List S) (a : Seen) (e : X) (result : Result T X) → result ≡ Err e → (ByFlash e → Broke R s xs a (err e)) → Goes R s (xs ++ ys) a ok err Kept ByFlash result
+  broke_goes s xs ys a e result is broke = subst (λ (r : Result T X). Goes R s (xs ++ ys) a ok err Kept ByFlash r) (sym is) (λ by. broke_more R s xs ys a (err e) (broke by))
+
+  pub stopped_stops : (s : S) (xs ys : List S) (a : Seen) (e : X) (result : Result T X) → result ≡ Err e → (¬ ByFlash e → Stopped R s xs a (err e)) → Stops R s (xs ++ ys) a err ByFlash result
+  stopped_stops s xs ys a e result is stopped = subst (λ (r : Result T X). Stops R s (xs ++ ys) a err ByFlash r) (sym is) (λ other. stopped_more R s xs ys a (err e) (stopped other))
 
 -- the same call, read as other states, of which its value keeps something else
 module _ {S U T X : Type 0} (R : Reading S) (Q : Reading U) (ok : T → Seen) (err : X → Seen) (Kept : T → S → Type 0) (Kept' : T → U → Type 0) (ByFlash : X → Type 0) where
   pub goes_as : (s : S) (xs : List S) (t : U) (ys : List U) (a : Seen) (result : Result T X) → length xs ≡ length ys → (IsTrue a.told → Refines R Q s xs t ys) → ((v : T) → Kept v (last_of s xs) → Kept' v (last_of t ys))
       → Goes R s xs a ok err Kept ByFlash result → Goes Q t ys a ok err Kept' ByFlash result
   goes_as s xs t ys a (Ok v) n r kept ab = (ran_as R Q s xs t ys a (ok v) n r ab.0, kept v ab.1)
-  goes_as s xs t ys a (Err e) n r kept ab = halts_as R Q s xs t ys (ByFlash e) a (err e) n r ab
+  goes_as s xs t ys a (Err e) n r kept ab = λ by. broke_as R Q s xs t ys a (err e) n r (ab by)
+
+  pub stops_as : (s : S) (xs : List S) (t : U) (ys : List U) (a : Seen) (result : Result T X) → length xs ≡ length ys → (IsTrue a.told → Refines R Q s xs t ys)
+      → Stops R s xs a err ByFlash result → Stops Q t ys a err ByFlash result
+  stops_as s xs t ys a (Ok v) n r ab = tt
+  stops_as s xs t ys a (Err e) n r ab = λ other. stopped_as R Q s xs t ys a (err e) n r (ab other)
 
 -- what stands for a state in one way does so in another
 module _ {S : Type 0} (A B : S → List ℕ → Type 0) (weak : (s : S) (c : List ℕ) → A s c → B s c) where

@@ -1,5 +1,5 @@
 -- A run: operations begun one after the other, the states that stand after each, and what a cut may have left.
-use Rattle.std.specs.Prelude.{◌≡◌, ◌⊎◌, ℕ, zero, suc, ◌-◌, ◌≤◌, true, false, IsTrue, Some, None, List, [], ◌∷◌, length, take, Result, MatchResult}
+use Rattle.std.specs.Prelude.{◌≡◌, ◌⊎◌, ℕ, zero, suc, ◌-◌, ◌≤◌, true, false, IsTrue, Some, None, List, [], ◌∷◌, length, take, Result, MatchResult, IfErr}
 use Rattle.mu_model_flash.specs.declared.Pattern.{Pattern}
 use Rattle.mu_model_flash.specs.declared.Pattern.TheVariants.{Old, New, Made}
 use Rattle.mu_model_flash.specs.Bits.{Between}
@@ -110,15 +110,14 @@ pub record Stopped {S : Type 0} (R : Reading S) (s : S) (steps : List S) (old ne
   pub at_most : done ≤ length steps
   pub ran : Ran R s (take done steps) old new
 
--- what an error leaves, by whether it is the flash's
-pub record Halts {S : Type 0} (R : Reading S) (s : S) (steps : List S) (ByFlash : Type 0) (old new : Seen) : Type 0 where
-  pub by_flash : ByFlash → Broke R s steps old new
-  pub otherwise : ¬ ByFlash → Stopped R s steps old new
-
 -- a call that fails by the flash alone
 abbrev pub Runs : {S T E : Type 0} → Reading S → S → List S → Seen → Seen → Result T E → Type 0
 Runs R s steps old new result = MatchResult result (λ _. Ran R s steps old new) (λ _. Broke R s steps old new)
 
 -- A call that hands its flash on in what it answers: where the value and the error keep the flash, what the value keeps of the last state, and which errors are the flash's.
 abbrev pub Goes : {S T E : Type 0} → Reading S → S → List S → Seen → (T → Seen) → (E → Seen) → (T → S → Type 0) → (E → Type 0) → Result T E → Type 0
-Goes R s steps old ok err Kept ByFlash result = MatchResult result (λ t. Ran R s steps old (ok t) × Kept t (last_of s steps)) (λ e. Halts R s steps (ByFlash e) old (err e))
+Goes R s steps old ok err Kept ByFlash result = MatchResult result (λ t. Ran R s steps old (ok t) × Kept t (last_of s steps)) (λ e. ByFlash e → Broke R s steps old (err e))
+
+-- The same call, where it was ended by something else.
+abbrev pub Stops : {S T E : Type 0} → Reading S → S → List S → Seen → (E → Seen) → (E → Type 0) → Result T E → Type 0
+Stops R s steps old err ByFlash result = IfErr result (λ e. ¬ ByFlash e → Stopped R s steps old (err e))

@@ -2,3 +2,4 @@ pub mod CodeBits
 pub mod CodeLemmas
 pub mod PageLemmas
 pub mod SlotLemmas
+pub mod PlaceLemmas

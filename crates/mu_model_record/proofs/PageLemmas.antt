@@ -7,7 +7,7 @@ use Rattle.mu_model_flash.proofs.BitLemmas.{length-blank, get-blank}
 use Rattle.mu_model_flash.proofs.RangeLemmas.{length-part, get-part, mix_at}
 use Rattle.mu_model_record.proofs.CodeBits.{mix_swap}
 use Rattle.mu_model_record.specs.Code.{coded, content_of, IsCodeWord, HasPairOfOnes, IsSafe, Fades}
-use Rattle.mu_model_record.specs.Page.{slot_in, format_of, IsLong, Word, whole, slot, IsWord, IsSafePage, IsDead, PageFades}
+use Rattle.mu_model_record.specs.Page.{slot_in, format_of, IsLong, Word, page_word, slot_word, IsWord, IsSafePage, IsDead, PageFades}
 use Rattle.mu_model_record.proofs.CodeLemmas.{length-coded, coded_is, content-coded, Raised, raised_from, raised_code, raised_safe, ones_no_code, ones_first, take-coded}
 
 long_or_not : (page : List ℕ) → IsLong page ⊎ ¬ IsLong page
@@ -87,20 +87,20 @@ long_then : (old new : List ℕ) → slot_in new 0 ≡ slot_in old 0 → IsLong 
 long_then old new same long = ap (λ (s : List ℕ). format_of (content_of s)) (sym same) ∙ long
 
 dead_no_word : (page : List ℕ) → IsDead page → (word : Word) → IsWord page word → ⊥
-dead_no_word page (inl ones) (whole content) is = ones_no_code (slot_in page 0) ones is.0
-dead_no_word page (inl ones) (slot k content) is = ones_no_code (slot_in page 0) ones is.0
-dead_no_word page (inr dead) (whole content) is = ones_no_code page dead.2 is.2
-dead_no_word page (inr dead) (slot k content) is = is.1 dead.1
+dead_no_word page (inl ones) (page_word content) is = ones_no_code (slot_in page 0) ones is.0
+dead_no_word page (inl ones) (slot_word k content) is = ones_no_code (slot_in page 0) ones is.0
+dead_no_word page (inr dead) (page_word content) is = ones_no_code page dead.2 is.2
+dead_no_word page (inr dead) (slot_word k content) is = is.1 dead.1
 
 pub no_new_word : (old new : List ℕ) → PageFades old new ⊎ IsDead new → (word : Word) → IsWord new word → IsWord old word
 no_new_word old new (inr dead) word is = absurd (dead_no_word new dead word is)
-no_new_word old new (inl fades) (whole content) is =
+no_new_word old new (inl fades) (page_word content) is =
     let same = kept_first old new fades is.0 in
     let code = code_then old new same is.0 in
     let long = long_then old new same is.1 in
     let page : new ≡ old = ⊎_elim (λ s. s) (λ ones. absurd (ones_no_code new ones is.2)) (fades.if_long code long) in
     (code, long, subst (λ (p : List ℕ). IsCodeWord p) page is.2, is.3 ∙ ap content_of page)
-no_new_word old new (inl fades) (slot k content) is =
+no_new_word old new (inl fades) (slot_word k content) is =
     let same = kept_first old new fades is.0 in
     let code = code_then old new same is.0 in
     let short : ¬ IsLong old = λ long. is.1 (long_then new old (sym same) long) in
@@ -145,9 +145,9 @@ module _ (octets : List ℕ) (many : length octets ≡ 2048) (small : AreOctets 
   pub coded_is_long : format_of octets ≡ 1 → IsLong (coded octets)
   coded_is_long is = ap (λ (s : List ℕ). format_of (content_of s)) first_slot ∙ ap format_of (content-coded (take 512 octets)) ∙ get_or-take 512 octets 4 0 (omega arith) ∙ is
 
-  pub written_word : format_of octets ≡ 1 → (word : Word) → IsWord (coded octets) word → word ≡ whole octets
-  written_word is (whole content) w = ap (λ (l : List ℕ). whole l) (w.3 ∙ content-coded octets)
-  written_word is (slot k content) w = absurd (w.1 (coded_is_long is))
+  pub written_word : format_of octets ≡ 1 → (word : Word) → IsWord (coded octets) word → word ≡ page_word octets
+  written_word is (page_word content) w = ap (λ (l : List ℕ). page_word l) (w.3 ∙ content-coded octets)
+  written_word is (slot_word k content) w = absurd (w.1 (coded_is_long is))
 
   pub first_is_code : IsCodeWord (slot_in (coded octets) 0)
   first_is_code = subst (λ (s : List ℕ). IsCodeWord s) (sym first_slot) (coded_is (take 512 octets) (λ i. below i (⊎_split i)))

@@ -4,7 +4,7 @@ use Rattle.std.proofs.lemmas.Bool.{cases_eq}
 use Rattle.mu_model_flash.specs.Bits.{AreOctets, blank, part_of}
 use Rattle.mu_model_flash.proofs.BitLemmas.{length-blank, get-blank}
 use Rattle.mu_model_record.specs.Code.{content_of, IsCodeWord, HasPairOfOnes, IsSafe}
-use Rattle.mu_model_record.specs.Page.{slot_in, format_of, IsLong, Word, whole, slot, IsWord, IsSafePage, CanWriteSlot, SlotChanges}
+use Rattle.mu_model_record.specs.Page.{slot_in, format_of, IsLong, Word, page_word, slot_word, IsWord, IsSafePage, CanWriteSlot, SlotChanges}
 use Rattle.mu_model_record.proofs.CodeLemmas.{coded_is, content-coded, ones_no_code, drop_code, take_code, drop_ones, take_ones}
 use Rattle.mu_model_record.proofs.PageLemmas.{ff_pair}
 
@@ -64,17 +64,17 @@ module _ (old new : List ℕ) (k : ℕ) (octets : List ℕ) (small : AreOctets o
   zero_or_more : (j : ℕ) → (j ≡ 0) ⊎ (0 < j)
   zero_or_more j = grind arith
 
-  as_new : (j : ℕ) (content : List ℕ) → j ≡ k → IsCodeWord (slot_in new j) → content ≡ content_of (slot_in new j) → slot j content ≡ slot k octets
+  as_new : (j : ℕ) (content : List ℕ) → j ≡ k → IsCodeWord (slot_in new j) → content ≡ content_of (slot_in new j) → slot_word j content ≡ slot_word k octets
   as_new j content is code held =
       let c : content ≡ octets = this_word content (subst (λ (i : ℕ). IsCodeWord (slot_in new i)) is code) (held ∙ ap (λ (i : ℕ). content_of (slot_in new i)) is) in
-      λ i. slot (is i) (c i)
+      λ i. slot_word (is i) (c i)
 
-  pub slot_word : (word : Word) → IsWord new word → IsWord old word ⊎ (word ≡ slot k octets)
-  slot_word (whole content) w = ⊎_elim
+  pub slot_words : (word : Word) → IsWord new word → IsWord old word ⊎ (word ≡ slot_word k octets)
+  slot_words (page_word content) w = ⊎_elim
       (λ first. absurd (ones_no_code (slot_in new 1) (later_ones first 1 (omega arith) (omega arith)) (slot_code new 1 w.2)))
       (λ later. absurd (never_long later w.0 w.1))
       first_or_later
-  slot_word (slot j content) w = ⊎_elim
+  slot_words (slot_word j content) w = ⊎_elim
       (λ is. inr (as_new j content is w.3 w.4))
       (λ other. ⊎_elim
       (λ first. ⊎_elim

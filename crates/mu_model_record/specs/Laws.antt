@@ -1,8 +1,9 @@
 -- What holds of code words and of the words of a page.
-use Rattle.std.specs.Prelude.{◌≡◌, ◌⊎◌, ℕ, List, length}
+use Rattle.std.specs.Prelude.{◌≡◌, ◌⊎◌, ℕ, ◌+◌, ◌*◌, ◌<◌, ◌≤◌, List, length}
 use Rattle.mu_model_flash.specs.Bits.{AreOctets, blank, Between}
 use Rattle.mu_model_record.specs.Code.{coded, IsCodeWord, content_of, HasPairOfOnes}
-use Rattle.mu_model_record.specs.Page.{format_of, Word, whole, slot, IsWord, IsSafePage, IsDead, PageFades, CanWriteSlot, SlotChanges}
+use Rattle.mu_model_record.specs.Page.{page_of, slot_of, slot_in, format_of, Word, page_word, slot_word, IsWord, IsSafePage, IsDead, PageFades, CanWriteSlot, SlotChanges}
+use Rattle.mu_model_record.specs.Turns.{before, after, PageTurns, SlotTurns}
 
 -- what is coded is a code word, and is read back
 abbrev pub CodedIsReadBack : Type 0
@@ -21,8 +22,8 @@ abbrev pub TornEraseFades : Type 0
 TornEraseFades = (old new : List ℕ) → length old ≡ 4096 → IsSafePage old → Between old (blank 4096) new → PageFades old new
 
 -- what fades has no word that wasn't there, and is safe
-abbrev pub NoNewWord : Type 0
-NoNewWord = (old new : List ℕ) → PageFades old new ⊎ IsDead new → (word : Word) → IsWord new word → IsWord old word
+abbrev pub FadedHasNoNewWord : Type 0
+FadedHasNoNewWord = (old new : List ℕ) → PageFades old new ⊎ IsDead new → (word : Word) → IsWord new word → IsWord old word
 
 abbrev pub FadedIsSafe : Type 0
 FadedIsSafe = (old new : List ℕ) → IsSafePage old → PageFades old new ⊎ IsDead new → IsSafePage new
@@ -30,7 +31,7 @@ FadedIsSafe = (old new : List ℕ) → IsSafePage old → PageFades old new ⊎ 
 -- a page that is written whole has its octets as its one word
 abbrev pub WrittenPageHasItsWord : Type 0
 WrittenPageHasItsWord =
-    (octets : List ℕ) (word : Word) → length octets ≡ 2048 → AreOctets octets → format_of octets ≡ 1 → IsWord (coded octets) word → word ≡ whole octets
+    (octets : List ℕ) (word : Word) → length octets ≡ 2048 → AreOctets octets → format_of octets ≡ 1 → IsWord (coded octets) word → word ≡ page_word octets
 
 -- a program of such a page that is cut short leaves it whole or without a word
 abbrev pub TornPageIsWholeOrDead : Type 0
@@ -41,9 +42,23 @@ TornPageIsWholeOrDead =
 abbrev pub WrittenSlotHasItsWord : Type 0
 WrittenSlotHasItsWord =
     (old new : List ℕ) (k : ℕ) (octets : List ℕ) → length octets ≡ 512 → AreOctets octets → CanWriteSlot old k → SlotChanges old new k octets
-    → (word : Word) → IsWord new word → IsWord old word ⊎ (word ≡ slot k octets)
+    → (word : Word) → IsWord new word → IsWord old word ⊎ (word ≡ slot_word k octets)
 
 -- and leaves it safe
 abbrev pub WrittenSlotIsSafe : Type 0
 WrittenSlotIsSafe =
     (old new : List ℕ) (k : ℕ) (octets : List ℕ) → length octets ≡ 512 → AreOctets octets → IsSafePage old → CanWriteSlot old k → SlotChanges old new k octets → IsSafePage new
+
+-- what an operation leaves of the octets of a flash, as what it leaves of the page
+abbrev pub TurnsOfAPage : Type 0
+TurnsOfAPage =
+    (old image octets : List ℕ) (page : ℕ) → 4096 * page + 4096 ≤ length old → length octets ≡ 2048
+    → PageTurns old page octets after image → page_of image page ≡ coded octets
+
+abbrev pub TurnsOfASlot : Type 0
+TurnsOfASlot =
+    (old image octets : List ℕ) (page k : ℕ) → 4096 * page + 4096 ≤ length old → k < 4 → length octets ≡ 512
+    → SlotTurns old page k octets before image ⊎ SlotTurns old page k octets after image → SlotChanges (page_of old page) (page_of image page) k octets
+
+abbrev pub SlotsOfAPage : Type 0
+SlotsOfAPage = (octets : List ℕ) (page k : ℕ) → 4096 * page + 4096 ≤ length octets → k < 4 → slot_in (page_of octets page) k ≡ slot_of octets page k

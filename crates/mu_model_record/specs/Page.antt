@@ -28,14 +28,14 @@ IsLong page = format_of (content_of (slot_in page 0)) ≡ 1
 
 -- a word of a page: the content of the whole page, or of a slot
 pub data Word : Type 0 where
-  whole : List ℕ → Word
-  slot : ℕ → List ℕ → Word
+  page_word : List ℕ → Word
+  slot_word : ℕ → List ℕ → Word
 
 -- The words of a page. Where slot 0 is no code word, there is none. Where its content has format 1, the whole page is the one word if it is a
 -- code word, and else there is none. Otherwise each slot that is a code word is a word.
 abbrev pub IsWord : List ℕ → Word → Type 0
-IsWord page (whole content) = IsCodeWord (slot_in page 0) × IsLong page × IsCodeWord page × (content ≡ content_of page)
-IsWord page (slot k content) = IsCodeWord (slot_in page 0) × ¬ IsLong page × (k < 4) × IsCodeWord (slot_in page k) × (content ≡ content_of (slot_in page k))
+IsWord page (page_word content) = IsCodeWord (slot_in page 0) × IsLong page × IsCodeWord page × (content ≡ content_of page)
+IsWord page (slot_word k content) = IsCodeWord (slot_in page 0) × ¬ IsLong page × (k < 4) × IsCodeWord (slot_in page k) × (content ≡ content_of (slot_in page k))
 
 -- A page of which no torn erase makes a word that it hasn't.
 pub record IsSafePage (page : List ℕ) : Type 0 where

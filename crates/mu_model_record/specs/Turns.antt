@@ -2,7 +2,7 @@
 use Rattle.std.specs.Prelude.{◌≡◌, ◌⊎◌, ℕ, ◌*◌, List, [], ◌∷◌}
 use Rattle.mu_model_flash.specs.Bits.{blank, written, SameOutside}
 use Rattle.mu_model_record.specs.Code.{coded, HasPairOfOnes}
-use Rattle.mu_model_record.specs.Page.{page_of, slot_of, slot_place, IsDead, PageFades}
+use Rattle.mu_model_record.specs.Page.{page_of, slot_of, slot_place, Word, IsWord, IsDead, PageFades}
 
 pub data Turn : Type 0 where
   before : Turn
@@ -31,3 +31,11 @@ MarkTurns old at after c = c ≡ written old at (254 ∷ [])
 -- Whatever happens to a range, all octets outside it are as before.
 abbrev pub StaysOutside : ℕ → ℕ → List ℕ → Unit {0} → List ℕ → Type 0
 StaysOutside at n old here c = SameOutside at n old c
+
+-- The page has no word that it hadn't.
+abbrev pub NoNewWord : List ℕ → ℕ → Unit {0} → List ℕ → Type 0
+NoNewWord old page here c = (word : Word) → IsWord (page_of c page) word → IsWord (page_of old page) word
+
+-- The page has no word that it hadn't, but the new one.
+abbrev pub NoOtherWord : List ℕ → ℕ → Word → Unit {0} → List ℕ → Type 0
+NoOtherWord old page new here c = (word : Word) → IsWord (page_of c page) word → IsWord (page_of old page) word ⊎ (word ≡ new)

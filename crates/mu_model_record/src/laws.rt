@@ -1,5 +1,5 @@
 //! Laws of code words and control pages: functions that do nothing, whose contracts are proved.
-ghost use Rattle.mu_model_record.specs.Laws.{CodedIsReadBack, CodeWordsAreCoded, PairOfOnesIsNoCodeWord, TornEraseFades, NoNewWord, FadedIsSafe, WrittenPageHasItsWord, TornPageIsWholeOrDead, WrittenSlotHasItsWord, WrittenSlotIsSafe};
+ghost use Rattle.mu_model_record.specs.Laws.{CodedIsReadBack, CodeWordsAreCoded, PairOfOnesIsNoCodeWord, TornEraseFades, FadedHasNoNewWord, FadedIsSafe, WrittenPageHasItsWord, TornPageIsWholeOrDead, WrittenSlotHasItsWord, WrittenSlotIsSafe, TurnsOfAPage, TurnsOfASlot, SlotsOfAPage};
 
 /// Code words and their contents are one to one, and a pair of ones is in none.
 pub fn code_words()
@@ -11,7 +11,7 @@ pub fn code_words()
 /// A torn erase of a control page gives it no word that it hadn't.
 pub fn torn_erase()
     ensures fades { TornEraseFades }
-    ensures no_new_word { NoNewWord }
+    ensures no_new_word { FadedHasNoNewWord }
     ensures safe { FadedIsSafe }
 {}
 
@@ -25,4 +25,11 @@ pub fn written_page()
 pub fn written_slot()
     ensures its_word { WrittenSlotHasItsWord }
     ensures safe { WrittenSlotIsSafe }
+{}
+
+/// What an operation leaves of a flash is what it leaves of the page.
+pub fn pages_of_a_flash()
+    ensures page { TurnsOfAPage }
+    ensures slot { TurnsOfASlot }
+    ensures slots { SlotsOfAPage }
 {}

@@ -5,7 +5,7 @@ use Rattle.mu_model_flash.proofs.Compose.{broke_more}
 use Rattle.mu_model_flash.proofs.Readings.{broke_runs}
 use Rattle.mu_model_record.specs.Code.{coded}
 use Rattle.mu_model_record.proofs.CodeLemmas.{length-coded}
-use Rattle.mu_cells.proofs.TurnLemmas.{page_runs, write_stays, page_operations, erased_reads}
+use Rattle.mu_cells.proofs.TurnLemmas.{page_runs, page_word_runs, write_stays, page_operations, erased_reads}
 use Rattle.mu_cells.proofs.page.write_page.Goals as goal
 
 pub returns-in_err-erase-clause-operations : goal.returns-in_err-erase-clause-operations
@@ -46,3 +46,13 @@ pub returns-clause-outside : goal.returns-clause-outside
 returns-clause-outside g c =
     let many : length c.args.octets.now ≡ 2048 = search rules in
     write_stays _ (g.met.F.Flash.sound c.args.flash.now) _ c.program.result c.args.page _ c.requires.within many (returns-clause-operations g c)
+
+pub returns-in_err-erase-clause-words : goal.returns-in_err-erase-clause-words
+returns-in_err-erase-clause-words g c safe long =
+    let many : length c.args.octets.now ≡ 2048 = search rules in
+    page_word_runs _ (g.met.F.Flash.sound c.args.flash.now) _ c.from_residual.result c.args.page _ c.requires.within many (λ i. c.fits-octets i) long (returns-in_err-erase-clause-cuts g c safe long)
+
+pub returns-clause-words : goal.returns-clause-words
+returns-clause-words g c safe long =
+    let many : length c.args.octets.now ≡ 2048 = search rules in
+    page_word_runs _ (g.met.F.Flash.sound c.args.flash.now) _ c.program.result c.args.page _ c.requires.within many (λ i. c.fits-octets i) long (returns-clause-cuts g c safe long)

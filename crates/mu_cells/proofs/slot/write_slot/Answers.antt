@@ -4,7 +4,7 @@ use Rattle.mu_model_flash.specs.Run.{exact, Runs}
 use Rattle.mu_model_flash.proofs.RangeLemmas.{range-part}
 use Rattle.mu_model_record.specs.Page.{slot_place}
 use Rattle.mu_model_record.proofs.CodeLemmas.{length-coded}
-use Rattle.mu_cells.proofs.TurnLemmas.{slot_runs}
+use Rattle.mu_cells.proofs.TurnLemmas.{slot_runs, slot_word_runs}
 use Rattle.mu_cells.proofs.slot.write_slot.Goals as goal
 
 pub program-requires-clause-is_blank : goal.program-requires-clause-is_blank
@@ -20,3 +20,8 @@ returns-clause-cuts g c =
     let a = g.F.Flash.seen c.args.flash.now in
     let runs = subst (λ (bytes : List ℕ). Runs exact a.octets (written a.octets (slot_place c.args.page c.args.slot) bytes ∷ []) a (g.F.Flash.seen c.program.new.self) c.program.result) c.encode.ensures c.program.ensures.runs in
     slot_runs a (g.met.F.Flash.sound c.args.flash.now) _ c.program.result c.args.page c.args.slot _ c.requires.within c.requires.one_of_four many (λ i. c.fits-octets i) c.requires.is_blank runs
+
+pub returns-clause-words : goal.returns-clause-words
+returns-clause-words g c can =
+    let many : length c.args.octets.now ≡ 512 = search rules in
+    slot_word_runs (g.F.Flash.seen c.args.flash.now) (g.met.F.Flash.sound c.args.flash.now) _ c.program.result c.args.page c.args.slot _ c.requires.within c.requires.one_of_four many (λ i. c.fits-octets i) can (returns-clause-cuts g c)
