@@ -1,6 +1,7 @@
 -- Sets of numbers below a bound, and the set that a report of missing blocks or chunks names.
 use Rattle.std.specs.Prelude.{ℕ, ◌≡◌, ◌<◌, ◌≤◌, ◌↔◌, ◌+◌, ◌*◌, ◌/◌, ◌%◌, ◌^◌, Bool, true, false, IsTrue, not, ◌||◌, ◌==◌, nat_lt, List, [], ◌∷◌, length, map, filter, take, drop, replicate, slice_index, slice_index_or, Contains, Option, MatchOption, Ok, if◌then◌else◌}
 use Rattle.std.specs.List.{range_with_len, All as AllOf}
+use Rattle.std.specs.List.Sorted.{IsStrictlyIncreasing}
 use Rattle.std.specs.Int.{bit_at}
 use Rattle.mu_model_wire.specs.Patterns.{list_spelling, IsList, IsListFault}
 use Rattle.mu_model_wire.specs.Fields.{pattern, number, Shown}
@@ -91,6 +92,24 @@ report_of set =
     else Bits (record { items = bit_field set })
 
 -- ---- laws
+
+-- the members are those numbers that are in the set, rising
+abbrev pub MembersAreThose : Type 0
+MembersAreThose = (set : List Bool) (k : ℕ) → Contains (members set) k ↔ IsTrue (has set k)
+
+abbrev pub MembersRise : Type 0
+MembersRise = (set : List Bool) → IsStrictlyIncreasing (members set)
+
+-- a number below the bound is in a set or in its complement, and never in both
+abbrev pub ComplementHasTheOthers : Type 0
+ComplementHasTheOthers = (set : List Bool) (k : ℕ) → k < length set → has (complement set) k ≡ not (has set k)
+
+abbrev pub ComplementHasTheRest : Type 0
+ComplementHasTheRest = (set : List Bool) → length (members set) + length (members (complement set)) ≡ length set
+
+-- a union has what one of the two has
+abbrev pub UnionHasBoth : Type 0
+UnionHasBoth = (set other : List Bool) (k : ℕ) → k < length set → has (union set other) k ≡ (has set k || has other k)
 
 -- a report names at most one set below a bound
 abbrev pub ReportsNameOneSet : Type 0

@@ -1,6 +1,6 @@
 //! What names a set of missing blocks or chunks on the wire.
 
-ghost use Rattle.mu_model_wire.specs.Reports.{ReportsNameOneSet, ReportsOfASetAreInOrder, ReportOfASetNamesIt, SpellingsAreLists, ListsAreRead, ListsHaveNoFault, ListFaultsAreOne, GrammarReadsLists, GrammarRefusesLists};
+ghost use Rattle.mu_model_wire.specs.Reports.{MembersAreThose, MembersRise, ComplementHasTheOthers, ComplementHasTheRest, UnionHasBoth, ReportsNameOneSet, ReportsOfASetAreInOrder, ReportOfASetNamesIt, SpellingsAreLists, ListsAreRead, ListsHaveNoFault, ListFaultsAreOne, GrammarReadsLists, GrammarRefusesLists};
 
 use arrayvec::ArrayVec;
 
@@ -16,6 +16,15 @@ pub enum Report {
     /// The missing numbers.
     List(ArrayVec<u16, 374>),
 }
+
+/// What is in a set, in its complement and in a union.
+pub fn sets()
+    ensures members { MembersAreThose }
+    ensures rising { MembersRise }
+    ensures complement { ComplementHasTheOthers }
+    ensures partition { ComplementHasTheRest }
+    ensures both { UnionHasBoth }
+{}
 
 /// A report names one set, and the report of a set names it.
 pub fn reports()
