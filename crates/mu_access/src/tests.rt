@@ -1,3 +1,7 @@
+ghost use Rattle.std.specs.Prelude.{◌<◌, ◌≤◌, length};
+ghost use Rattle.mu_codec.specs.View.{packet_of};
+ghost use Rattle.mu_access.specs.Datagram.{CanTravel};
+
 use crate::{Message, datagram, in_range, read, undatagram, write};
 use mu_blobmsg::BlobMsg;
 use mu_codec::{Packet, Payload, Refusal, Why, put_octets};
@@ -8,11 +12,13 @@ fn refusal(at: u16, why: Why) -> Refusal {
     Refusal { at, why }
 }
 
-fn packet(octets: &[u8]) -> Packet {
+fn packet(octets: &[u8]) -> Packet
+    requires some { 0 < length octets.now }
+    requires most { length octets.now ≤ 380 }
+    ensures { CanTravel (packet_of result) }
+{
     let mut payload = Payload::new();
-    if octets.len() <= 380 {
-        put_octets(&mut payload, octets);
-    }
+    put_octets(&mut payload, octets);
     Packet {
         from: 0x0102,
         to: 0xC0FE,
@@ -23,9 +29,21 @@ fn packet(octets: &[u8]) -> Packet {
 #[test]
 fn messages_of_all_models_are_read_and_written(rt: HostRuntime) {
     for (octets, message) in [
-        (b"\x83\x06".as_slice(), Message::Blob(BlobMsg::BlobInformationGet)),
-        (b"\x66\x01\x00\xAA", Message::Blob(BlobMsg::ChunkTransfer { chunk: 1, octets: b"\xAA" })),
-        (b"\x83\x08\x01\x02", Message::Upd(UpdMsg::InformationGet { first: 1, limit: 2 })),
+        (
+            b"\x83\x06".as_slice(),
+            Message::Blob(BlobMsg::BlobInformationGet),
+        ),
+        (
+            b"\x66\x01\x00\xAA",
+            Message::Blob(BlobMsg::ChunkTransfer {
+                chunk: 1,
+                octets: b"\xAA",
+            }),
+        ),
+        (
+            b"\x83\x08\x01\x02",
+            Message::Upd(UpdMsg::InformationGet { first: 1, limit: 2 }),
+        ),
         (b"\x83\x0F", Message::Upd(UpdMsg::UpdateApply)),
         (b"\x83\x12", Message::Dist(DistMsg::ReceiversDeleteAll)),
         (b"\x83\x26", Message::Dist(DistMsg::FirmwareDeleteAll)),
@@ -62,9 +80,11 @@ fn opcodes_in_no_row_are_refused(rt: HostRuntime) {
 #[test]
 fn datagrams_carry_packets(rt: HostRuntime) {
     let one = packet(b"\x83\x0C");
-    assert!(rt; one.payload.len() > 0);
     let octets = datagram(&one);
-    assert_eq!(rt; octets.as_slice(), b"MU\x01\x00\x02\x01\xFE\xC0\x83\x0C".as_slice());
+    assert_eq!(rt;
+        octets.as_slice(),
+        b"MU\x01\x00\x02\x01\xFE\xC0\x83\x0C".as_slice()
+    );
     assert_eq!(rt; undatagram(octets.as_slice()), Ok(one));
     let mut most = [0x66; 389];
     most[..8].copy_from_slice(b"MU\x01\x00\x02\x01\xFE\xC0");

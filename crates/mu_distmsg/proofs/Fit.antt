@@ -21,9 +21,9 @@ is_fit bytes (Err e) octets given even = tt
 
 pub all_even_push : (rows : List ReceiverRow) (row : ReceiverRow) → All RowIsEven rows → RowIsEven row → All RowIsEven (rows ++ row ∷ [])
 all_even_push rows row even last = λ k d lt. elim (cases_lt k (length rows)) [
-    | inl below ↦ rw (get_or_append_left rows (row ∷ []) d k below) (even k d below)
-    | inr past ↦ rw (get_or_at rows row [] d k (omega (arith, lt, past, length-append rows (row ∷ [])))) last
-  ]
+  | inl below ↦ rw (get_or_append_left rows (row ∷ []) d k below) (even k d below)
+  | inr past ↦ rw (get_or_at rows row [] d k (omega (arith, lt, past, length-append rows (row ∷ [])))) last
+]
 
 -- ---- ranges
 

@@ -16,7 +16,11 @@ pub fn in_range(msg: &DistMsg) -> bool
         DistMsg::ReceiversAdd { entries } => receivers_add(entries),
         DistMsg::ReceiversStatus { status, count } => receivers_status(*status, *count),
         DistMsg::ReceiversGet { first, limit } => receivers_get(*first, *limit),
-        DistMsg::ReceiversList { count, first, entries } => receivers_list(*count, *first, entries),
+        DistMsg::ReceiversList {
+            count,
+            first,
+            entries,
+        } => receivers_list(*count, *first, entries),
         DistMsg::CapabilitiesStatus {
             receivers,
             images,
@@ -25,8 +29,19 @@ pub fn in_range(msg: &DistMsg) -> bool
             remaining,
             oob,
             schemes,
-        } => capabilities_status(*receivers, *images, *max_size, *space, *remaining, *oob, schemes),
-        DistMsg::DistributionStart { appkey, ttl, base, mode, policy, image, label, group } => distribution_start(*appkey, *ttl, *base, *mode, *policy, *image, *label, *group),
+        } => capabilities_status(
+            *receivers, *images, *max_size, *space, *remaining, *oob, schemes,
+        ),
+        DistMsg::DistributionStart {
+            appkey,
+            ttl,
+            base,
+            mode,
+            policy,
+            image,
+            label,
+            group,
+        } => distribution_start(*appkey, *ttl, *base, *mode, *policy, *image, *label, *group),
         DistMsg::DistributionStatus {
             status,
             phase,
@@ -37,14 +52,34 @@ pub fn in_range(msg: &DistMsg) -> bool
             mode,
             policy,
             image,
-        } => distribution_status(*status, *phase, *group, *appkey, *ttl, *base, *mode, *policy, *image),
-        DistMsg::UploadStart { ttl, base, id, size, metadata, fwid } => upload_start(*ttl, *base, *id, *size, metadata, fwid),
+        } => distribution_status(
+            *status, *phase, *group, *appkey, *ttl, *base, *mode, *policy, *image,
+        ),
+        DistMsg::UploadStart {
+            ttl,
+            base,
+            id,
+            size,
+            metadata,
+            fwid,
+        } => upload_start(*ttl, *base, *id, *size, metadata, fwid),
         DistMsg::UploadStartOob { uri, fwid } => upload_start_oob(uri, fwid),
-        DistMsg::UploadStatus { status, phase, progress, kind, fwid } => upload_status(*status, *phase, *progress, *kind, *fwid),
+        DistMsg::UploadStatus {
+            status,
+            phase,
+            progress,
+            kind,
+            fwid,
+        } => upload_status(*status, *phase, *progress, *kind, *fwid),
         DistMsg::FirmwareGet { fwid } => firmware_get(fwid),
         DistMsg::FirmwareGetByIndex { index } => firmware_get_by_index(*index),
         DistMsg::FirmwareDelete { fwid } => firmware_delete(fwid),
-        DistMsg::FirmwareStatus { status, count, index, fwid } => firmware_status(*status, *count, *index, *fwid),
+        DistMsg::FirmwareStatus {
+            status,
+            count,
+            index,
+            fwid,
+        } => firmware_status(*status, *count, *index, *fwid),
         DistMsg::ReceiversDeleteAll
         | DistMsg::CapabilitiesGet
         | DistMsg::DistributionGet

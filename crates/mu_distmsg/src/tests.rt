@@ -89,13 +89,29 @@ fn each_row_is_read_and_written(rt: HostRuntime) {
         fwid: None,
     };
     for (octets, message) in [
-        (b"\x83\x11\xFF\x7F\x09".as_slice(), DistMsg::ReceiversAdd { entries: added }),
+        (
+            b"\x83\x11\xFF\x7F\x09".as_slice(),
+            DistMsg::ReceiversAdd { entries: added },
+        ),
         (b"\x83\x12", DistMsg::ReceiversDeleteAll),
-        (b"\x83\x13\x0D\x02\x01", DistMsg::ReceiversStatus { status: 13, count: 0x0102 }),
-        (b"\x83\x14\x01\x00\x02\x00", DistMsg::ReceiversGet { first: 1, limit: 2 }),
+        (
+            b"\x83\x13\x0D\x02\x01",
+            DistMsg::ReceiversStatus {
+                status: 13,
+                count: 0x0102,
+            },
+        ),
+        (
+            b"\x83\x14\x01\x00\x02\x00",
+            DistMsg::ReceiversGet { first: 1, limit: 2 },
+        ),
         (
             b"\x83\x15\x01\x00\x00\x00\x02\x01\x6D\xCA\x03",
-            DistMsg::ReceiversList { count: 1, first: 0, entries: listed },
+            DistMsg::ReceiversList {
+                count: 1,
+                first: 0,
+                entries: listed,
+            },
         ),
         (b"\x83\x16", DistMsg::CapabilitiesGet),
         (
@@ -107,13 +123,22 @@ fn each_row_is_read_and_written(rt: HostRuntime) {
             b"\x83\x19\xFF\x0F\x07\x02\x01\x06\x03\x00ABCDEFGHIJKLMNOP",
             start(Some(*b"ABCDEFGHIJKLMNOP"), None),
         ),
-        (b"\x83\x19\xFF\x0F\x07\x02\x01\x06\x03\x00\x00\x00", start(None, Some(0))),
-        (b"\x83\x19\xFF\x0F\x07\x02\x01\x06\x03\x00\x00\xC0", start(None, Some(0xC000))),
+        (
+            b"\x83\x19\xFF\x0F\x07\x02\x01\x06\x03\x00\x00\x00",
+            start(None, Some(0)),
+        ),
+        (
+            b"\x83\x19\xFF\x0F\x07\x02\x01\x06\x03\x00\x00\xC0",
+            start(None, Some(0xC000)),
+        ),
         (b"\x83\x1A", DistMsg::DistributionSuspend),
         (b"\x83\x1B", DistMsg::DistributionCancel),
         (b"\x83\x1C", DistMsg::DistributionApply),
         (b"\x83\x1D\x0D\x00", idle()),
-        (b"\x83\x1D\x00\x07\x00\x80\x01\x00\x02\x03\x00\x01\x04\x00", active()),
+        (
+            b"\x83\x1D\x00\x07\x00\x80\x01\x00\x02\x03\x00\x01\x04\x00",
+            active(),
+        ),
         (b"\x83\x1E", DistMsg::UploadGet),
         (
             b"\x83\x1F\x07\x02\x01\x01\x02\x03\x04\x05\x06\x07\x08\x01\x00\x00\x00\x01mab",
@@ -126,21 +151,40 @@ fn each_row_is_read_and_written(rt: HostRuntime) {
                 fwid: b"ab",
             },
         ),
-        (b"\x83\x20\x03u:xab", DistMsg::UploadStartOob { uri: b"u:x", fwid: b"ab" }),
+        (
+            b"\x83\x20\x03u:xab",
+            DistMsg::UploadStartOob {
+                uri: b"u:x",
+                fwid: b"ab",
+            },
+        ),
         (b"\x83\x21", DistMsg::UploadCancel),
         (b"\x83\x22\x01\x01\xE4ab", uploading),
         (b"\x83\x22\x01\x00", not_uploading),
         (b"\x83\x23ab", DistMsg::FirmwareGet { fwid: b"ab" }),
-        (b"\x83\x24\x02\x01", DistMsg::FirmwareGetByIndex { index: 0x0102 }),
+        (
+            b"\x83\x24\x02\x01",
+            DistMsg::FirmwareGetByIndex { index: 0x0102 },
+        ),
         (b"\x83\x25ab", DistMsg::FirmwareDelete { fwid: b"ab" }),
         (b"\x83\x26", DistMsg::FirmwareDeleteAll),
         (
             b"\x83\x27\x00\x02\x00\xFF\xFF",
-            DistMsg::FirmwareStatus { status: 0, count: 2, index: 0xFFFF, fwid: None },
+            DistMsg::FirmwareStatus {
+                status: 0,
+                count: 2,
+                index: 0xFFFF,
+                fwid: None,
+            },
         ),
         (
             b"\x83\x27\x04\x02\x00\x01\x00ab",
-            DistMsg::FirmwareStatus { status: 4, count: 2, index: 1, fwid: Some(b"ab") },
+            DistMsg::FirmwareStatus {
+                status: 4,
+                count: 2,
+                index: 1,
+                fwid: Some(b"ab"),
+            },
         ),
     ] {
         assert_eq!(rt; read(octets), Ok(message), "at {octets:?}");
@@ -162,18 +206,39 @@ fn the_first_wrong_field_is_refused(rt: HostRuntime) {
         (b"\x83\x11\x01\x00\x00\x00\x80\x00", refusal(5, Why::Value)),
         (b"\x83\x11\x01\x00\x00\x01\x00", refusal(7, Why::Short)),
         (b"\x83\x13\x0E\x00\x00", refusal(2, Why::Value)),
-        (b"\x83\x15\x00\x00\x00\x00\x00\x80\x00\x00\x00", refusal(6, Why::Value)),
-        (b"\x83\x15\x00\x00\x00\x00\x01\x00\x00\xCC\x00", refusal(6, Why::Value)),
-        (b"\x83\x15\x00\x00\x00\x00\x01\x00\x00\x00", refusal(6, Why::Short)),
+        (
+            b"\x83\x15\x00\x00\x00\x00\x00\x80\x00\x00\x00",
+            refusal(6, Why::Value),
+        ),
+        (
+            b"\x83\x15\x00\x00\x00\x00\x01\x00\x00\xCC\x00",
+            refusal(6, Why::Value),
+        ),
+        (
+            b"\x83\x15\x00\x00\x00\x00\x01\x00\x00\x00",
+            refusal(6, Why::Short),
+        ),
         (b"\x83\x19\x00\x10", refusal(2, Why::Value)),
-        (b"\x83\x19\x00\x00\x07\x02\x01\x03\x03\x00\x00\x00", refusal(7, Why::Value)),
-        (b"\x83\x19\x00\x00\x07\x02\x01\x01\x03\x00\xFF\xBF", refusal(10, Why::Value)),
-        (b"\x83\x19\x00\x00\x07\x02\x01\x01\x03\x00ABCDEFGHIJKLMNO", refusal(10, Why::Value)),
+        (
+            b"\x83\x19\x00\x00\x07\x02\x01\x03\x03\x00\x00\x00",
+            refusal(7, Why::Value),
+        ),
+        (
+            b"\x83\x19\x00\x00\x07\x02\x01\x01\x03\x00\xFF\xBF",
+            refusal(10, Why::Value),
+        ),
+        (
+            b"\x83\x19\x00\x00\x07\x02\x01\x01\x03\x00ABCDEFGHIJKLMNO",
+            refusal(10, Why::Value),
+        ),
         (
             b"\x83\x19\x00\x00\x07\x02\x01\x01\x03\x00\x00\xC0CDEFGHIJKLMNO",
             refusal(12, Why::Long),
         ),
-        (b"\x83\x19\x00\x00\x07\x02\x01\x01\x03\x00ABCDEFGHIJKLMNOPQ", refusal(26, Why::Long)),
+        (
+            b"\x83\x19\x00\x00\x07\x02\x01\x01\x03\x00ABCDEFGHIJKLMNOPQ",
+            refusal(26, Why::Long),
+        ),
         (b"\x83\x1D\x00\x01\xFF\x7F", refusal(4, Why::Value)),
         (b"\x83\x20\x03u:", refusal(3, Why::Short)),
         (b"\x83\x22\x01\x01\x65ab", refusal(4, Why::Value)),
@@ -199,7 +264,11 @@ fn what_has_no_octets_is_out_of_range(rt: HostRuntime) {
         entries: listed,
     };
     assert!(rt; !in_range(&odd));
-    assert!(rt; !in_range(&DistMsg::ReceiversAdd { entries: ArrayVec::new() }));
+    assert!(rt;
+        !in_range(&DistMsg::ReceiversAdd {
+            entries: ArrayVec::new()
+        })
+    );
     assert!(rt; !in_range(&start(None, None)));
     assert!(rt; !in_range(&start(Some([0; 16]), Some(0))));
     assert!(rt; !in_range(&start(None, Some(0xBFFF))));

@@ -27,7 +27,11 @@ fn spelled(msg: &DistMsg) -> Payload
         DistMsg::ReceiversDeleteAll => opcode_alone(0x12),
         DistMsg::ReceiversStatus { status, count } => receivers_status(*status, *count),
         DistMsg::ReceiversGet { first, limit } => receivers_get(*first, *limit),
-        DistMsg::ReceiversList { count, first, entries } => receivers_list(*count, *first, entries.as_slice()),
+        DistMsg::ReceiversList {
+            count,
+            first,
+            entries,
+        } => receivers_list(*count, *first, entries.as_slice()),
         DistMsg::CapabilitiesGet => opcode_alone(0x16),
         DistMsg::CapabilitiesStatus {
             receivers,
@@ -37,9 +41,20 @@ fn spelled(msg: &DistMsg) -> Payload
             remaining,
             oob,
             schemes,
-        } => capabilities_status(*receivers, *images, *max_size, *space, *remaining, *oob, schemes),
+        } => capabilities_status(
+            *receivers, *images, *max_size, *space, *remaining, *oob, schemes,
+        ),
         DistMsg::DistributionGet => opcode_alone(0x18),
-        DistMsg::DistributionStart { appkey, ttl, base, mode, policy, image, label, group } => distribution_start(*appkey, *ttl, *base, *mode, *policy, *image, *label, *group),
+        DistMsg::DistributionStart {
+            appkey,
+            ttl,
+            base,
+            mode,
+            policy,
+            image,
+            label,
+            group,
+        } => distribution_start(*appkey, *ttl, *base, *mode, *policy, *image, *label, *group),
         DistMsg::DistributionSuspend => opcode_alone(0x1A),
         DistMsg::DistributionCancel => opcode_alone(0x1B),
         DistMsg::DistributionApply => opcode_alone(0x1C),
@@ -53,17 +68,37 @@ fn spelled(msg: &DistMsg) -> Payload
             mode,
             policy,
             image,
-        } => distribution_status(*status, *phase, *group, *appkey, *ttl, *base, *mode, *policy, *image),
+        } => distribution_status(
+            *status, *phase, *group, *appkey, *ttl, *base, *mode, *policy, *image,
+        ),
         DistMsg::UploadGet => opcode_alone(0x1E),
-        DistMsg::UploadStart { ttl, base, id, size, metadata, fwid } => upload_start(*ttl, *base, *id, *size, metadata, fwid),
+        DistMsg::UploadStart {
+            ttl,
+            base,
+            id,
+            size,
+            metadata,
+            fwid,
+        } => upload_start(*ttl, *base, *id, *size, metadata, fwid),
         DistMsg::UploadStartOob { uri, fwid } => upload_start_oob(uri, fwid),
         DistMsg::UploadCancel => opcode_alone(0x21),
-        DistMsg::UploadStatus { status, phase, progress, kind, fwid } => upload_status(*status, *phase, *progress, *kind, *fwid),
+        DistMsg::UploadStatus {
+            status,
+            phase,
+            progress,
+            kind,
+            fwid,
+        } => upload_status(*status, *phase, *progress, *kind, *fwid),
         DistMsg::FirmwareGet { fwid } => firmware_get(fwid),
         DistMsg::FirmwareGetByIndex { index } => firmware_get_by_index(*index),
         DistMsg::FirmwareDelete { fwid } => firmware_delete(fwid),
         DistMsg::FirmwareDeleteAll => opcode_alone(0x26),
-        DistMsg::FirmwareStatus { status, count, index, fwid } => firmware_status(*status, *count, *index, *fwid),
+        DistMsg::FirmwareStatus {
+            status,
+            count,
+            index,
+            fwid,
+        } => firmware_status(*status, *count, *index, *fwid),
     }
 }
 
@@ -231,8 +266,15 @@ fn distribution_status(
     put_octets(&mut out, &[0x83, 0x1D]);
     put_u8(&mut out, status);
     put_u8(&mut out, phase);
-    if let (Some(group), Some(appkey), Some(ttl), Some(base), Some(mode), Some(policy), Some(image)) =
-        (group, appkey, ttl, base, mode, policy, image)
+    if let (
+        Some(group),
+        Some(appkey),
+        Some(ttl),
+        Some(base),
+        Some(mode),
+        Some(policy),
+        Some(image),
+    ) = (group, appkey, ttl, base, mode, policy, image)
     {
         put_u16(&mut out, group);
         put_u16(&mut out, appkey);
