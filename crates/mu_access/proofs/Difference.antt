@@ -1,5 +1,5 @@
 -- The first place of a datagram that differs from the mark, octet by octet.
-use Rattle.std.proofs.Common.{◌≡◌, ℕ, ◌<◌, ltb, eqb, cond, get_or, List, [], ◌∷◌, length, Option, Some, None, refl, ◌&&◌, not, arith}
+use Rattle.std.proofs.Common.{◌≡◌, ℕ, ltb, eqb, cond, get_or, List, [], ◌∷◌, length, Option, Some, None, refl, arith}
 use Rattle.std.proofs.lemmas.Bool.{lt-ltb}
 use Rattle.mu_access.specs.Datagram.{first_difference, mark}
 

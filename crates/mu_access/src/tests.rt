@@ -1,3 +1,7 @@
+ghost use Rattle.std.specs.Prelude.{◌<◌, ◌≤◌, length};
+ghost use Rattle.mu_codec.specs.View.{packet_of};
+ghost use Rattle.mu_access.specs.Datagram.{CanTravel};
+
 use crate::{Message, datagram, in_range, read, undatagram, write};
 use mu_blobmsg::BlobMsg;
 use mu_codec::{Packet, Payload, Refusal, Why, put_octets};
@@ -8,11 +12,13 @@ fn refusal(at: u16, why: Why) -> Refusal {
     Refusal { at, why }
 }
 
-fn packet(octets: &[u8]) -> Packet {
+fn packet(octets: &[u8]) -> Packet
+    requires some { 0 < length octets.now }
+    requires most { length octets.now ≤ 380 }
+    ensures { CanTravel (packet_of result) }
+{
     let mut payload = Payload::new();
-    if octets.len() <= 380 {
-        put_octets(&mut payload, octets);
-    }
+    put_octets(&mut payload, octets);
     Packet {
         from: 0x0102,
         to: 0xC0FE,
@@ -74,7 +80,6 @@ fn opcodes_in_no_row_are_refused(rt: HostRuntime) {
 #[test]
 fn datagrams_carry_packets(rt: HostRuntime) {
     let one = packet(b"\x83\x0C");
-    assert!(rt; one.payload.len() > 0);
     let octets = datagram(&one);
     assert_eq!(rt;
         octets.as_slice(),

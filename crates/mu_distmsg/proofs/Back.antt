@@ -1,5 +1,5 @@
 -- The message in memory that a plain message is the view of, where no progress is odd.
-use Rattle.std.proofs.Common.{◌≡◌, ℕ, suc, ◌*◌, ◌/◌, ◌%◌, ◌<◌, eqb, cond, List, [], ◌∷◌, ◌++◌, length, Option, Some, None, refl, sym, ap, ◌∙◌, map, arith}
+use Rattle.std.proofs.Common.{◌≡◌, ℕ, suc, ◌*◌, ◌/◌, eqb, cond, List, [], ◌∷◌, ◌++◌, Option, Some, None, refl, sym, ap, ◌∙◌, map, arith}
 use Rattle.std.specs.Prelude.{unwrap_or}
 use Rattle.std.specs.List.{All}
 use Rattle.std.specs.Borrow.{Bor}
@@ -8,7 +8,7 @@ use Rattle.mu_model_wire.specs.Names.{address, index, status, count, first, limi
 use Rattle.mu_model_wire.specs.Reading.{value_of}
 use Rattle.mu_model_wire.proofs.Found.{number_of, octets_of, number_of-append, octets_of-append, number_same, number_other, or_else, or_none}
 use Rattle.mu_distmsg.specs.View.{view, pair_shown, row_shown, RowIsEven, IsEven}
-use Rattle.mu_distmsg.specs.Laws.{content, unplaced, unplaced_there}
+use Rattle.mu_distmsg.specs.Laws.{content, unplaced_there}
 use Rattle.mu_distmsg.specs.declared.message.ReceiverRow.{ReceiverRow}
 use Rattle.mu_distmsg.specs.declared.message.DistMsg.{DistMsg}
 use Rattle.mu_distmsg.specs.declared.message.DistMsg.TheVariants.{ReceiversAdd, ReceiversDeleteAll, ReceiversStatus, ReceiversGet, ReceiversList, CapabilitiesGet, CapabilitiesStatus, DistributionGet, DistributionStart, DistributionSuspend, DistributionCancel, DistributionApply, DistributionStatus, UploadGet, UploadStart, UploadStartOob, UploadCancel, UploadStatus, FirmwareGet, FirmwareGetByIndex, FirmwareDelete, FirmwareDeleteAll, FirmwareStatus}

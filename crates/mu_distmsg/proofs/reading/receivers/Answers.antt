@@ -1,8 +1,7 @@
-use Rattle.std.proofs.Common.{◌≡◌, ◌++◌, ◌∷◌, [], map, refl, arith}
+use Rattle.std.proofs.Common.{◌≡◌, ◌++◌, ◌∷◌, [], map, arith}
 use Rattle.std.proofs.lemmas.Result.{err_from_is_err_and}
 use Rattle.std.proofs.lemmas.List.{map_push}
 use Rattle.mu_model_wire.proofs.Loops.{goes_on, fails}
-use Rattle.mu_model_wire.specs.Distribution.{receiver_fields}
 use Rattle.mu_distmsg.specs.View.{pair_shown}
 use Rattle.mu_distmsg.proofs.reading.receivers.Goals as goal
 

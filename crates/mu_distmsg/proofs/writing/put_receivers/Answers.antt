@@ -1,4 +1,4 @@
-use Rattle.std.proofs.Common.{arith, get_or}
+use Rattle.std.proofs.Common.{arith}
 use Rattle.mu_model_wire.proofs.Loops.{room}
 use Rattle.mu_model_wire.specs.Distribution.{receiver_fields}
 use Rattle.mu_distmsg.specs.View.{pair_shown}

@@ -1,4 +1,4 @@
-use Rattle.std.proofs.Common.{◌≡◌, ◌≤◌, ◌+◌, ◌++◌, length, map, take, drop, [], ◌∷◌}
+use Rattle.std.proofs.Common.{◌≡◌, ◌++◌, map, drop}
 use Rattle.mu_model_wire.specs.Spelling.{entries_spelling}
 use Rattle.mu_model_wire.specs.Distribution.{receiver_fields}
 use Rattle.mu_distmsg.specs.View.{pair_shown}

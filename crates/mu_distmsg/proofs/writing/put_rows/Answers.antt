@@ -1,4 +1,3 @@
-use Rattle.std.proofs.Common.{arith, get_or, []}
 use Rattle.mu_model_wire.proofs.Loops.{room, fits_at}
 use Rattle.mu_model_wire.specs.Distribution.{row_fields}
 use Rattle.mu_distmsg.specs.View.{row_shown}

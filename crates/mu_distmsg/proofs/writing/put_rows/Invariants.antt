@@ -1,5 +1,5 @@
-use Rattle.std.proofs.Common.{◌≡◌, ◌≤◌, ◌+◌, ◌++◌, length, map, drop, [], ◌∷◌}
-use Rattle.mu_model_wire.specs.Spelling.{entries_spelling, EntriesFit}
+use Rattle.std.proofs.Common.{◌≡◌, ◌++◌, map, drop}
+use Rattle.mu_model_wire.specs.Spelling.{entries_spelling}
 use Rattle.mu_model_wire.specs.Distribution.{row_fields}
 use Rattle.mu_distmsg.specs.View.{row_shown}
 use Rattle.mu_distmsg.proofs.writing.put_rows.Given as goal
