@@ -58,6 +58,7 @@ decodes text is = by (first_bad_digit 0 text) refl
             let bad : Some (length text) ≡ None = rw e at none in
             absurd cc
         by_case false e = omega (arith, eqb-false (n % 2) 1 e)
+
     by : (o : Option ℕ) → first_bad_digit 0 text ≡ o → IsOk (decode_sized text (length text / 2))
     by (Some place) e =
         let bad : Some place ≡ None = rw e at is in

@@ -38,12 +38,14 @@ impl LineWork for CheckWork {
     ghost use Rattle.mu_top.specs.Payloads.{BarsPayload, DoesPayload, checked};
 
     ghost does = { DoesPayload checked };
+
     ghost bars = { BarsPayload };
+
     ghost grows = { λ _. ⊥ };
+
     ghost too_long = { λ state line long. rw (lt-ltb 4096 (length line) long) refl };
 
-    fn do_line<K: Sink>(&mut self, line: &[u8], sink: &mut K) -> Result<(), LineStop>
-    {
+    fn do_line<K: Sink>(&mut self, line: &[u8], sink: &mut K) -> Result<(), LineStop> {
         let mut room = [0; 2048];
         let message = match read_payload(line, &mut room) {
             Ok(Some(message)) => message,

@@ -59,7 +59,10 @@ fn octets_of<'a>(text: &[u8], room: &'a mut [u8; 2048]) -> Result<&'a [u8], u16>
 }
 
 /// The message of a line, None where it says nothing.
-pub(crate) fn read_payload<'a>(line: &[u8], room: &'a mut [u8; 2048]) -> Result<Option<Message<'a>>, LineStop>
+pub(crate) fn read_payload<'a>(
+    line: &[u8],
+    room: &'a mut [u8; 2048],
+) -> Result<Option<Message<'a>>, LineStop>
     requires { length line.now ≤ 4096 }
     ensures { GivesMessage result (payload_line line.now) }
 {
@@ -68,7 +71,10 @@ pub(crate) fn read_payload<'a>(line: &[u8], room: &'a mut [u8; 2048]) -> Result<
     }
     let octets = match octets_of(line, room) {
         Ok(octets) => octets,
-        Err(place) => return Err(LineStop::Refused { place, word: b"hex" }),
+        Err(place) => return Err(LineStop::Refused {
+            place,
+            word: b"hex",
+        }),
     };
     match read(octets) {
         Ok(message) => Ok(Some(message)),
