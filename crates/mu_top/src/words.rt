@@ -79,6 +79,8 @@ pub enum Command {
     Replay,
     /// Writes the canonical octets of the payloads that the source gives.
     Check,
+    /// Shows the messages of the payloads that the source gives.
+    Show,
 }
 
 /// The command that the words spell: none where the list is overfull, or where they aren't in the grammar of commands.
@@ -94,6 +96,9 @@ pub fn read_words(words: &WordList) -> Option<Command>
     }
     if word == b"check".as_slice() {
         return Some(Command::Check);
+    }
+    if word == b"show".as_slice() {
+        return Some(Command::Show);
     }
     None
 }
