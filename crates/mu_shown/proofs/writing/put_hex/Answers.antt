@@ -1,0 +1,17 @@
+use Rattle.std.proofs.Common.{◌≡◌, ◌≤◌, ◌<◌, ℕ, sym, ap, ◌∙◌, refl, get_or, take, drop, length, map, ◌++◌, ◌∷◌, [], arith}
+use Rattle.std.specs.List.{flat_map}
+use Rattle.hex.specs.Hex.{encode_lower, encode_with}
+use Rattle.mu_shown.specs.Lines.{joined, entry_text, value_text, entries_text}
+use Rattle.mu_shown.specs.Seen.{value_seen, field_seen, list_shown}
+use Rattle.mu_shown.proofs.Told.{adds_nothing, adds_then, adds_as, hex_more, take_more, flat_more, joined_map, joined_entries}
+use Rattle.mu_shown.proofs.writing.put_hex.Goals as goal
+
+pub loop-octet-init : goal.loop-octet-init
+unfolding encode_with
+loop-octet-init g c = adds_nothing _ _ _
+
+pub loop-octet-preserved : goal.loop-octet-preserved
+loop-octet-preserved g c =
+    let octets = c.args.octets.now in
+    let i = c.loop-octet.octet-index in
+    adds_as (hex_more (take i octets) (get_or octets i 0) ∙ ap encode_lower (take_more octets i 0 c.loop-octet-test.true)) (adds_then c.loop-octet.invariant (adds_as c.digits.ensures c.put-done.ensures))
