@@ -1,13 +1,13 @@
 -- Facts about what is told before and after calls.
-use Rattle.std.proofs.Common.{◌≡◌, map, ℕ, zero, suc, ◌∷◌, ◌+◌, ◌-◌, ◌/◌, ◌%◌, ◌<◌, get_or, slice_index, ◌^◌, ◌≤◌, ◌++◌, [], length, length-drop, length-take, arith, take, drop, sym, ap, ◌∙◌, append_assoc, take-add, List, Option, Some, None, Result, Ok, Err, refl, subst, inl, inr}
+use Rattle.std.proofs.Common.{◌≡◌, map, ℕ, zero, suc, ◌∷◌, ◌+◌, ◌-◌, ◌/◌, ◌%◌, ◌<◌, get_or, slice_index, ◌^◌, ◌≤◌, ◌++◌, [], length, length-drop, length-take, arith, take, drop, sym, ap, ◌∙◌, append_assoc, take-add, List, Option, Some, None, Bool, true, false, if◌then◌else◌, Result, Ok, Err, refl, subst, inl, inr}
 use Rattle.std.proofs.lemmas.Bool.{cases_lt}
 use Rattle.std.proofs.lemmas.List.{take_all, take-append-le, append-nil}
 use Rattle.std.specs.Result.{OnOk, OnErr}
 use Rattle.std.specs.List.{flat_map}
-use Rattle.std.specs.Fmt.{decimal}
-use Rattle.mu_model_wire.specs.Fields.{Shown, number, perhaps}
-use Rattle.mu_model_wire.specs.Names.{field_texts, text_of}
-use Rattle.mu_shown.specs.Lines.{joined, entry_text, entries_text, field_text, named, there}
+use Rattle.mu_model_wire.specs.Fields.{Shown}
+use Rattle.mu_shown.specs.Lines.{joined, entry_text, entries_text, field_text, list_text}
+use Rattle.mu_shown.specs.Seen.{seen, field_seen}
+use Rattle.mu_shown.specs.declared.fields.Field.{Field}
 use Rattle.hex.specs.Hex.{encode_lower, encode_with, lower_digits}
 use Rattle.mu_outside.specs.Stream.{WriteTakes}
 use Rattle.mu_model_flash.specs.Cause.{HasCause, Rose}
@@ -135,13 +135,18 @@ next_entry (e ∷ es) (suc k) low lt =
 pub rest_whole : {X : Type 0} (xs : List X) → take (length xs - 1) (drop 1 xs) ≡ drop 1 xs
 rest_whole xs = take_all (length xs - 1) (drop 1 xs) (omega (arith, length-drop 1 xs))
 
-pub nothing_more : (xs : List ℕ) → xs ++ [] ≡ xs
-nothing_more xs = append-nil xs
+pub nothing_shown : (xs : List Shown) → xs ++ [] ≡ xs
+nothing_shown xs = append-nil xs
 
-pub flat_join : {X : Type 0} (f : X → List ℕ) (xs ys : List X) → flat_map f (xs ++ ys) ≡ flat_map f xs ++ flat_map f ys
-flat_join f [] ys = refl
-flat_join f (x ∷ xs) ys = ap (λ (t : List ℕ). f x ++ t) (flat_join f xs ys) ∙ sym (append_assoc (f x) (flat_map f xs) (flat_map f ys))
+-- what the fields of fields show
+pub twice : {X Y Z : Type 0} (f : Y → Z) (g : X → Y) (xs : List X) → map f (map g xs) ≡ map (λ x. f (g x)) xs
+twice f g [] = refl
+twice f g (x ∷ xs) = ap (λ t. f (g x) ∷ t) (twice f g xs)
 
-pub there_text : (n : ℕ) (o : Option ℕ) → flat_map field_text (perhaps (number n) o) ≡ there (text_of field_texts n) o
-there_text n None = refl
-there_text n (Some v) = append-nil (named (text_of field_texts n) (decimal v))
+pub seen_texts : (fs : List Field) → flat_map field_seen fs ≡ flat_map field_text (map seen fs)
+seen_texts fs = sym (flat-same field_text seen fs)
+
+-- no list, whichever way a row goes on
+pub no_list : (b : Bool) (entries : List (List Shown)) → list_text (if b then None else None) entries ≡ []
+no_list true entries = refl
+no_list false entries = refl

@@ -58,8 +58,3 @@ row_list_text (Some fs) m = list_text (entries_name fs [] m.fields) m.entries
 abbrev pub shown_line : Message → List ℕ
 shown_line m =
     ((text_of message_texts m.opcode ++ flat_map field_text m.fields) ++ row_list_text (fields_of rows m.opcode) m) ++ 10 ∷ []
-
--- a number that may be absent
-abbrev pub there : List ℕ → Option ℕ → List ℕ
-there name None = []
-there name (Some n) = named name (decimal n)

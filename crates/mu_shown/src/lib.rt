@@ -1,9 +1,14 @@
 //! The line that shows a message.
 #![tactic(auto)]
 
+mod blob;
+mod distribution;
 mod fields;
-mod parts;
+mod lines;
+mod lists;
+mod names;
+mod showing;
 mod update;
 mod writing;
 
-pub use update::show_update;
+pub use showing::show;

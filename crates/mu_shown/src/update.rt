@@ -1,111 +1,50 @@
-ghost use Rattle.std.specs.Prelude.{◌≡◌, ◌∷◌, []};
-ghost use Rattle.mu_model_wire.specs.Fields.{number};
-ghost use Rattle.mu_model_wire.specs.Names.{count as count_name, first as first_name};
-ghost use Rattle.std.specs.List.{flat_map};
 ghost use Rattle.mu_updmsg.specs.View.{view};
-ghost use Rattle.mu_shown.specs.Lines.{field_text, shown_line};
+ghost use Rattle.mu_shown.specs.Lines.{shown_line};
+ghost use Rattle.mu_shown.specs.Seen.{Shows};
 ghost use Rattle.mu_shown.specs.Written.{Writes};
-ghost use Rattle.mu_shown.specs.Seen.{field_seen};
 
 use crate::fields::{Fields, number, number_there, octets, of_octet, of_two};
-use crate::parts::List;
-use crate::writing::put_line;
+use crate::lines::Line;
+use crate::lists::List;
+use crate::names::Name;
+use crate::writing::{put_bare, put_line};
 use mu_outside::{Failed, Sink};
-use mu_updmsg::UpdMsg;
+use arrayvec::ArrayVec;
+use mu_updmsg::{Entry, UpdMsg};
 
-fn information_get<'a>(first: u8, limit: u8) -> Fields<'a>
-    ensures { flat_map field_seen result.items ≡ flat_map field_text (view (UpdMsg.InformationGet first limit)).fields }
-{
-    let mut fields = Fields::new();
-    number(&mut fields, b"first", first as u64);
-    number(&mut fields, b"limit", limit as u64);
-    fields
-}
-
-fn metadata_check<'a>(index: u8, metadata: &'a [u8]) -> Fields<'a>
-    ensures { flat_map field_seen result.items ≡ flat_map field_text (view (UpdMsg.MetadataCheck index metadata.entry)).fields }
-{
-    let mut fields = Fields::new();
-    number(&mut fields, b"index", index as u64);
-    octets(&mut fields, b"metadata", metadata);
-    fields
-}
-
-#[tactic(auto, using(crate::proofs::Told::flat_join, crate::proofs::Told::there_text))]
-fn update_status<'a>(
-    status: u8,
-    phase: u8,
-    ttl: Option<u8>,
-    additional: Option<u8>,
-    base: Option<u16>,
-    id: Option<u64>,
-    index: Option<u8>,
-) -> Fields<'a>
-    ensures { flat_map field_seen result.items ≡ flat_map field_text (view (UpdMsg.UpdateStatus status phase ttl additional base id index)).fields }
-{
-    let mut fields = Fields::new();
-    number(&mut fields, b"status", status as u64);
-    number(&mut fields, b"phase", phase as u64);
-    number_there(&mut fields, b"ttl", of_octet(ttl));
-    number_there(&mut fields, b"additional", of_octet(additional));
-    number_there(&mut fields, b"base", of_two(base));
-    number_there(&mut fields, b"id", id);
-    number_there(&mut fields, b"index", of_octet(index));
-    fields
-}
-
-/// Writes the line that shows a message of the Firmware Update model, with its end.
-pub fn show_update<K: Sink>(msg: &UpdMsg, sink: &mut K) -> Result<(), Failed>
+/// Writes the line that shows a message of the Firmware Update model.
+pub(crate) fn show<K: Sink>(msg: &UpdMsg, sink: &mut K) -> Result<(), Failed>
     ensures { Writes (K.written sink.old) (K.written sink.new) (K.faults sink.old) (K.faults sink.new) result (shown_line (view msg.now)) }
 {
     match msg {
-        UpdMsg::InformationGet { first, limit } => put_line(
-            sink,
-            b"information-get",
-            information_get(*first, *limit).as_slice(),
-            &List::Nothing,
-        ),
-        UpdMsg::MetadataCheck { index, metadata } => put_line(
-            sink,
-            b"metadata-check",
-            metadata_check(*index, metadata).as_slice(),
-            &List::Nothing,
-        ),
+        UpdMsg::InformationGet {
+            first,
+            limit,
+        } => put_line(sink, &information_get(*first, *limit)),
         UpdMsg::InformationStatus {
             count,
             first,
             entries,
-        } => put_line(
-            sink,
-            b"information-status",
-            information_status(*count, *first).as_slice(),
-            &List::Images(entries.as_slice()),
-        ),
+        } => put_line(sink, &information_status(*count, *first, entries)),
+        UpdMsg::MetadataCheck {
+            index,
+            metadata,
+        } => put_line(sink, &metadata_check(*index, metadata)),
         UpdMsg::MetadataStatus {
             status,
             additional,
             index,
-        } => put_line(
-            sink,
-            b"metadata-status",
-            metadata_status(*status, *additional, *index).as_slice(),
-            &List::Nothing,
-        ),
-        UpdMsg::UpdateGet => put_line(sink, b"update-get", &[], &List::Nothing),
+        } => put_line(sink, &metadata_status(*status, *additional, *index)),
+        UpdMsg::UpdateGet => put_bare(sink, b"update-get"),
         UpdMsg::UpdateStart {
             ttl,
             base,
             id,
             index,
             metadata,
-        } => put_line(
-            sink,
-            b"update-start",
-            update_start(*ttl, *base, *id, *index, metadata).as_slice(),
-            &List::Nothing,
-        ),
-        UpdMsg::UpdateCancel => put_line(sink, b"update-cancel", &[], &List::Nothing),
-        UpdMsg::UpdateApply => put_line(sink, b"update-apply", &[], &List::Nothing),
+        } => put_line(sink, &update_start(*ttl, *base, *id, *index, metadata)),
+        UpdMsg::UpdateCancel => put_bare(sink, b"update-cancel"),
+        UpdMsg::UpdateApply => put_bare(sink, b"update-apply"),
         UpdMsg::UpdateStatus {
             status,
             phase,
@@ -114,43 +53,105 @@ pub fn show_update<K: Sink>(msg: &UpdMsg, sink: &mut K) -> Result<(), Failed>
             base,
             id,
             index,
-        } => put_line(
-            sink,
-            b"update-status",
-            update_status(*status, *phase, *ttl, *additional, *base, *id, *index).as_slice(),
-            &List::Nothing,
-        ),
+        } => put_line(sink, &update_status(*status, *phase, *ttl, *additional, *base, *id, *index)),
     }
 }
 
-// What the line shows before the entries.
-fn information_status<'a>(count: u8, first: u8) -> Fields<'a>
-    ensures { flat_map field_seen result.items ≡ flat_map field_text (number count_name count ∷ number first_name first ∷ []) }
+fn information_get<'m, 'a>(first: u8, limit: u8) -> Line<'m, 'a>
+    ensures { Shows result (view (UpdMsg.InformationGet first limit)) }
 {
     let mut fields = Fields::new();
-    number(&mut fields, b"count", count as u64);
-    number(&mut fields, b"first", first as u64);
-    fields
+    number(&mut fields, Name::First, first as u64);
+    number(&mut fields, Name::Limit, limit as u64);
+    Line {
+        name: b"information-get",
+        fields,
+        list: List::Nothing,
+    }
 }
 
-fn metadata_status<'a>(status: u8, additional: u8, index: u8) -> Fields<'a>
-    ensures { flat_map field_seen result.items ≡ flat_map field_text (view (UpdMsg.MetadataStatus status additional index)).fields }
+fn information_status<'m, 'a>(
+    count: u8,
+    first: u8,
+    entries: &'m ArrayVec<Entry<'a>, 94>,
+) -> Line<'m, 'a>
+    ensures { Shows result (view (UpdMsg.InformationStatus count first entries.now)) }
 {
     let mut fields = Fields::new();
-    number(&mut fields, b"status", status as u64);
-    number(&mut fields, b"additional", additional as u64);
-    number(&mut fields, b"index", index as u64);
-    fields
+    number(&mut fields, Name::Count, count as u64);
+    number(&mut fields, Name::First, first as u64);
+    Line {
+        name: b"information-status",
+        fields,
+        list: List::Images(entries.as_slice()),
+    }
 }
 
-fn update_start<'a>(ttl: u8, base: u16, id: u64, index: u8, metadata: &'a [u8]) -> Fields<'a>
-    ensures { flat_map field_seen result.items ≡ flat_map field_text (view (UpdMsg.UpdateStart ttl base id index metadata.entry)).fields }
+fn metadata_check<'m, 'a>(index: u8, metadata: &'m [u8]) -> Line<'m, 'a>
+    ensures { Shows result (view (UpdMsg.MetadataCheck index metadata.entry)) }
 {
     let mut fields = Fields::new();
-    number(&mut fields, b"ttl", ttl as u64);
-    number(&mut fields, b"base", base as u64);
-    number(&mut fields, b"id", id);
-    number(&mut fields, b"index", index as u64);
-    octets(&mut fields, b"metadata", metadata);
-    fields
+    number(&mut fields, Name::Index, index as u64);
+    octets(&mut fields, Name::Metadata, metadata);
+    Line {
+        name: b"metadata-check",
+        fields,
+        list: List::Nothing,
+    }
+}
+
+fn metadata_status<'m, 'a>(status: u8, additional: u8, index: u8) -> Line<'m, 'a>
+    ensures { Shows result (view (UpdMsg.MetadataStatus status additional index)) }
+{
+    let mut fields = Fields::new();
+    number(&mut fields, Name::Status, status as u64);
+    number(&mut fields, Name::Additional, additional as u64);
+    number(&mut fields, Name::Index, index as u64);
+    Line {
+        name: b"metadata-status",
+        fields,
+        list: List::Nothing,
+    }
+}
+
+fn update_start<'m, 'a>(ttl: u8, base: u16, id: u64, index: u8, metadata: &'m [u8]) -> Line<'m, 'a>
+    ensures { Shows result (view (UpdMsg.UpdateStart ttl base id index metadata.entry)) }
+{
+    let mut fields = Fields::new();
+    number(&mut fields, Name::Ttl, ttl as u64);
+    number(&mut fields, Name::Base, base as u64);
+    number(&mut fields, Name::Id, id);
+    number(&mut fields, Name::Index, index as u64);
+    octets(&mut fields, Name::Metadata, metadata);
+    Line {
+        name: b"update-start",
+        fields,
+        list: List::Nothing,
+    }
+}
+
+fn update_status<'m, 'a>(
+    status: u8,
+    phase: u8,
+    ttl: Option<u8>,
+    additional: Option<u8>,
+    base: Option<u16>,
+    id: Option<u64>,
+    index: Option<u8>,
+) -> Line<'m, 'a>
+    ensures { Shows result (view (UpdMsg.UpdateStatus status phase ttl additional base id index)) }
+{
+    let mut fields = Fields::new();
+    number(&mut fields, Name::Status, status as u64);
+    number(&mut fields, Name::Phase, phase as u64);
+    number_there(&mut fields, Name::Ttl, of_octet(ttl));
+    number_there(&mut fields, Name::Additional, of_octet(additional));
+    number_there(&mut fields, Name::Base, of_two(base));
+    number_there(&mut fields, Name::Id, id);
+    number_there(&mut fields, Name::Index, of_octet(index));
+    Line {
+        name: b"update-status",
+        fields,
+        list: List::Nothing,
+    }
 }

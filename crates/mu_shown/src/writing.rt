@@ -4,10 +4,14 @@ ghost use Rattle.std.specs.List.{flat_map};
 ghost use Rattle.hex.specs.Hex.{encode_lower};
 ghost use Rattle.mu_model_flash.specs.Cause.{HasCause};
 ghost use Rattle.mu_shown.specs.Written.{Wrote, WroteSome, Adds, Writes};
-ghost use Rattle.mu_shown.specs.Lines.{joined, entry_text, entries_text, named};
-ghost use Rattle.mu_shown.specs.Seen.{value_seen, field_seen, list_shown, list_seen};
+ghost use Rattle.mu_shown.specs.Lines.{entry_text, entries_text, named, shown_line};
+ghost use Rattle.mu_shown.specs.Seen.{seen, value_seen, field_seen, list_shown, list_seen, Shows};
+ghost use Rattle.mu_model_wire.specs.Fields.{Message};
 
-use crate::parts::{Field, List, Value};
+use crate::fields::Field;
+use crate::lines::Line;
+use crate::lists::List;
+use crate::names::text;
 use itoa::Buffer;
 use mu_outside::{Failed, Sink};
 
@@ -61,12 +65,12 @@ fn digits(octet: u8) -> [u8; 2]
     digits
 }
 
-pub(crate) fn put_value<K: Sink>(sink: &mut K, so_far: Result<(), Failed>, value: &Value) -> Result<(), Failed>
-    ensures { Adds (K.written sink.old) (K.written sink.new) (K.faults sink.old) (K.faults sink.new) so_far result (value_seen value.now) }
+pub(crate) fn put_value<K: Sink>(sink: &mut K, so_far: Result<(), Failed>, field: &Field) -> Result<(), Failed>
+    ensures { Adds (K.written sink.old) (K.written sink.new) (K.faults sink.old) (K.faults sink.new) so_far result (value_seen field.now) }
 {
-    match value {
-        Value::Number(number) => put_number(sink, so_far, *number),
-        Value::Octets(octets) => put_hex(sink, so_far, octets),
+    match field {
+        Field::Number(_, number) => put_number(sink, so_far, *number),
+        Field::Octets(_, octets) => put_hex(sink, so_far, octets),
     }
 }
 
@@ -82,8 +86,8 @@ fn put_name<K: Sink>(sink: &mut K, so_far: Result<(), Failed>, name: &[u8]) -> R
 fn put_field<K: Sink>(sink: &mut K, so_far: Result<(), Failed>, field: &Field) -> Result<(), Failed>
     ensures { Adds (K.written sink.old) (K.written sink.new) (K.faults sink.old) (K.faults sink.new) so_far result (field_seen field.now) }
 {
-    let named = put_name(sink, so_far, field.name);
-    put_value(sink, named, &field.value)
+    let named = put_name(sink, so_far, text(field.name()));
+    put_value(sink, named, field)
 }
 
 pub(crate) fn put_fields<K: Sink>(sink: &mut K, so_far: Result<(), Failed>, fields: &[Field]) -> Result<(), Failed>
@@ -96,31 +100,31 @@ pub(crate) fn put_fields<K: Sink>(sink: &mut K, so_far: Result<(), Failed>, fiel
     done
 }
 
-fn put_other<K: Sink>(sink: &mut K, so_far: Result<(), Failed>, value: &Value) -> Result<(), Failed>
-    ensures { Adds (K.written sink.old) (K.written sink.new) (K.faults sink.old) (K.faults sink.new) so_far result (58 ∷ value_seen value.now) }
+fn put_other<K: Sink>(sink: &mut K, so_far: Result<(), Failed>, field: &Field) -> Result<(), Failed>
+    ensures { Adds (K.written sink.old) (K.written sink.new) (K.faults sink.old) (K.faults sink.new) so_far result (58 ∷ value_seen field.now) }
 {
     let colon = put(sink, so_far, b":");
-    put_value(sink, colon, value)
+    put_value(sink, colon, field)
 }
 
-fn put_others<K: Sink>(sink: &mut K, so_far: Result<(), Failed>, values: &[Value]) -> Result<(), Failed>
-    ensures { Adds (K.written sink.old) (K.written sink.new) (K.faults sink.old) (K.faults sink.new) so_far result (flat_map (λ v. 58 ∷ value_seen v) values.now) }
+fn put_others<K: Sink>(sink: &mut K, so_far: Result<(), Failed>, fields: &[Field]) -> Result<(), Failed>
+    ensures { Adds (K.written sink.old) (K.written sink.new) (K.faults sink.old) (K.faults sink.new) so_far result (flat_map (λ f. 58 ∷ value_seen f) fields.now) }
 {
     let mut done = so_far;
-    for value in values {
-        done = put_other(sink, done, value);
+    for field in fields {
+        done = put_other(sink, done, field);
     }
     done
 }
 
-fn put_entry<K: Sink>(sink: &mut K, so_far: Result<(), Failed>, values: &[Value]) -> Result<(), Failed>
-    ensures { Adds (K.written sink.old) (K.written sink.new) (K.faults sink.old) (K.faults sink.new) so_far result (joined 58 (map value_seen values.now)) }
+fn put_entry<K: Sink>(sink: &mut K, so_far: Result<(), Failed>, fields: &[Field]) -> Result<(), Failed>
+    ensures { Adds (K.written sink.old) (K.written sink.new) (K.faults sink.old) (K.faults sink.new) so_far result (entry_text (map seen fields.now)) }
 {
-    if values.is_empty() {
+    if fields.is_empty() {
         return so_far;
     }
-    let first = put_value(sink, so_far, &values[0]);
-    put_others(sink, first, &values[1..])
+    let first = put_value(sink, so_far, &fields[0]);
+    put_others(sink, first, &fields[1..])
 }
 
 fn put_next<K: Sink>(sink: &mut K, so_far: Result<(), Failed>, list: &List, place: usize) -> Result<(), Failed>
@@ -171,12 +175,20 @@ fn put_list<K: Sink>(sink: &mut K, so_far: Result<(), Failed>, list: &List) -> R
     }
 }
 
-/// Writes a line: a name, then the fields and the list.
-pub(crate) fn put_line<K: Sink>(sink: &mut K, name: &[u8], fields: &[Field], list: &List) -> Result<(), Failed>
-    ensures { Writes (K.written sink.old) (K.written sink.new) (K.faults sink.old) (K.faults sink.new) result (((name.now ++ flat_map field_seen fields.now) ++ list_seen list.now) ++ 10 ∷ []) }
+/// Writes the line of the message that it shows, with its end.
+pub(crate) fn put_line<K: Sink>(sink: &mut K, line: &Line) -> Result<(), Failed>
+    ensures { (m : Message) → Shows line.now m → Writes (K.written sink.old) (K.written sink.new) (K.faults sink.old) (K.faults sink.new) result (shown_line m) }
+{
+    let named = put(sink, Ok(()), line.name);
+    let shown = put_fields(sink, named, line.fields.as_slice());
+    let listed = put_list(sink, shown, &line.list);
+    put(sink, listed, b"\n")
+}
+
+/// Writes a line that has nothing but a name.
+pub(crate) fn put_bare<K: Sink>(sink: &mut K, name: &[u8]) -> Result<(), Failed>
+    ensures { Writes (K.written sink.old) (K.written sink.new) (K.faults sink.old) (K.faults sink.new) result (name.now ++ 10 ∷ []) }
 {
     let named = put(sink, Ok(()), name);
-    let shown = put_fields(sink, named, fields);
-    let listed = put_list(sink, shown, list);
-    put(sink, listed, b"\n")
+    put(sink, named, b"\n")
 }

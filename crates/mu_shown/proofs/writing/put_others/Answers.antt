@@ -1,14 +1,14 @@
 use Rattle.std.proofs.Common.{◌≡◌, ◌≤◌, ◌<◌, ℕ, sym, ap, ◌∙◌, refl, get_or, take, drop, length, map, ◌++◌, ◌∷◌, [], arith}
 use Rattle.std.specs.List.{flat_map}
 use Rattle.mu_shown.specs.Lines.{joined, entry_text, value_text, entries_text, named}
-use Rattle.mu_shown.specs.Seen.{value_seen, field_seen, list_shown, list_seen}
-use Rattle.mu_shown.specs.declared.parts.Value.{Value}
-use Rattle.mu_shown.proofs.Told.{adds_nothing, adds_then, adds_as, hex_more, take_more, flat_more, joined_map, joined_entries, next_entry, added}
+use Rattle.mu_shown.specs.Seen.{seen, value_seen, field_seen, list_shown, list_seen}
+use Rattle.mu_shown.specs.declared.fields.Field.{Field}
+use Rattle.mu_shown.proofs.Told.{adds_nothing, adds_then, adds_as, hex_more, take_more, flat_more, joined_map, joined_entries, next_entry, added, twice, seen_texts}
 use Rattle.mu_shown.proofs.writing.put_others.Goals as goal
 
-pub loop-value-preserved : goal.loop-value-preserved
-loop-value-preserved g c =
-    let values = c.args.values.now in
-    let i = c.loop-value.value-index in
-    let other = λ (v : Value). 58 ∷ value_seen v in
-    adds_as (flat_more other (take i values) (get_or values i _) ∙ ap (flat_map other) (take_more values i _ c.loop-value-test.true)) (adds_then c.loop-value.invariant c.put_other-done.ensures)
+pub loop-field-preserved : goal.loop-field-preserved
+loop-field-preserved g c =
+    let values = c.args.fields.now in
+    let i = c.loop-field.field-index in
+    let other = λ (v : Field). 58 ∷ value_seen v in
+    adds_as (flat_more other (take i values) (get_or values i _) ∙ ap (flat_map other) (take_more values i _ c.loop-field-test.true)) (adds_then c.loop-field.invariant c.put_other-done.ensures)
