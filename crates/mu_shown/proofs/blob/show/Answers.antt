@@ -21,3 +21,9 @@ returns-in-ChunkTransfer g c = rw c.in-ChunkTransfer.is (c.put_line-in-ChunkTran
 
 pub returns-in-PartialBlockReport : goal.returns-in-PartialBlockReport
 returns-in-PartialBlockReport g c = rw c.in-PartialBlockReport.is (c.put_line-in-PartialBlockReport.ensures _ c.partial_block_report.ensures)
+
+pub returns-in-BlobInformationGet : goal.returns-in-BlobInformationGet
+returns-in-BlobInformationGet g c = rw c.in-BlobInformationGet.is c.put_bare-in-BlobInformationGet.ensures
+
+pub returns-in-BlockStatus : goal.returns-in-BlockStatus
+returns-in-BlockStatus g c = rw c.in-BlockStatus.is c.block_status.ensures

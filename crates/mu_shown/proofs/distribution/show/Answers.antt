@@ -42,3 +42,6 @@ returns-in-FirmwareDelete g c = rw c.in-FirmwareDelete.is (c.put_line-in-Firmwar
 
 pub returns-in-FirmwareStatus : goal.returns-in-FirmwareStatus
 returns-in-FirmwareStatus g c = rw c.in-FirmwareStatus.is (c.put_line-in-FirmwareStatus.ensures _ c.firmware_status.ensures)
+
+pub returns-in-FirmwareDeleteAll : goal.returns-in-FirmwareDeleteAll
+returns-in-FirmwareDeleteAll g c = rw c.in-FirmwareDeleteAll.is c.put_bare-in-FirmwareDeleteAll.ensures
