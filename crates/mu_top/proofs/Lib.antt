@@ -5,3 +5,4 @@ pub mod WordLists
 pub mod Cuts
 pub mod Places
 pub mod Working
+pub mod Payloads

@@ -6,3 +6,5 @@ pub mod Status
 pub mod Ends
 pub mod Replay
 pub mod LineDone
+pub mod Payloads
+pub mod PayloadDone

@@ -1,7 +1,7 @@
 -- The words of a command line, and what they ask for (this profile).
 use Rattle.std.specs.Prelude.{ℕ, ◌&&◌, nat_le, List, [], ◌∷◌, ◌++◌, length, sum_by, take, drop, slice_get, codes, bytes_eq, Option, Some, None, if◌then◌else◌}
 use Rattle.mu_top.specs.declared.words.Command.{Command as HeldCommand}
-use Rattle.mu_top.specs.declared.words.Command.TheVariants.{Replay as HeldReplay}
+use Rattle.mu_top.specs.declared.words.Command.TheVariants.{Replay as HeldReplay, Check as HeldCheck}
 
 -- words of these lengths, one behind the other
 abbrev pub words_of : List ℕ → List ℕ → List (List ℕ)
@@ -26,19 +26,25 @@ word_at (Some words) place = slice_get words place
 pub data Command : Type 0 where
   -- the script that the source gives is run
   Replay : Command
+  -- the canonical octets of the payloads that the source gives are printed
+  Check : Command
 
 abbrev pub command : HeldCommand → Command
 command HeldReplay = Replay
+command HeldCheck = Check
 
--- replay, without keys
-abbrev pub replay_of : List (List ℕ) → Option Command
-replay_of [] = Some Replay
-replay_of (key ∷ keys) = None
+-- a command without keys
+abbrev pub without_keys : Command → List (List ℕ) → Option Command
+without_keys command [] = Some command
+without_keys command (key ∷ keys) = None
 
 -- the first word is the command, the others are its keys
 abbrev pub command_by : List (List ℕ) → Option Command
 command_by [] = None
-command_by (word ∷ keys) = if bytes_eq word (codes "replay") then replay_of keys else None
+command_by (word ∷ keys) =
+    if bytes_eq word (codes "replay") then without_keys Replay keys
+    else if bytes_eq word (codes "check") then without_keys Check keys
+    else None
 
 abbrev pub command_of : Option (List (List ℕ)) → Option Command
 command_of None = None

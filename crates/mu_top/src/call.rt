@@ -1,9 +1,11 @@
 // The one call of the program.
-ghost use Rattle.std.specs.Prelude.{◌≡◌, ◌↔◌, None, Some};
+ghost use Rattle.std.specs.Prelude.{◌≡◌, ◌≢◌, ◌↔◌, None, Some};
 ghost use Rattle.mu_model_flash.specs.Cause.{Rose};
+ghost use Rattle.mu_top.specs.Payloads.{Checked, CheckCompletes};
 ghost use Rattle.mu_top.specs.Replay.{Replayed, ReplayCompletes};
-ghost use Rattle.mu_top.specs.Words.{command_of, Replay};
+ghost use Rattle.mu_top.specs.Words.{command_of, Check, Replay};
 
+use crate::check::check;
 use crate::replay::replay;
 use crate::status::Status;
 use crate::words::{Command, WordList, read_words};
@@ -20,7 +22,8 @@ pub struct Ended<F> {
 
 /// Does what the words ask for, over the outside that is handed in, and answers the exit status.
 ///
-/// `replay` runs the script that the source gives, line by line, and writes its trace to the sink.
+/// `replay` runs the script that the source gives, line by line, and writes its trace to the sink. `check` writes the canonical
+/// octets of the payloads that the source gives, one in hexadecimal on a line.
 pub fn top<S: Source, K: Sink, F: Flash, L: Link, C: Clock>(
     alloc: Global,
     words: &WordList,
@@ -35,8 +38,15 @@ pub fn top<S: Source, K: Sink, F: Flash, L: Link, C: Clock>(
         → Replayed (S.left source.old) (S.left source.new) (K.written sink.old) (K.written sink.new) result.status }
 
     // A sound script from a source and to a sink that don't fail is done whole, unless memory is wanting.
-    ensures complete { command_of words.now ≡ Some Replay → (Rose (S.faults source.old) (S.faults source.new) → ⊥) → (Rose (K.faults sink.old) (K.faults sink.new) → ⊥)
+    ensures replay_complete { command_of words.now ≡ Some Replay → (Rose (S.faults source.old) (S.faults source.new) → ⊥) → (Rose (K.faults sink.old) (K.faults sink.new) → ⊥)
         → ReplayCompletes (S.left source.old) (S.left source.new) (K.written sink.old) (K.written sink.new) result.status }
+
+    // `check` writes the canonical octets of each payload, and takes no memory.
+    ensures check { command_of words.now ≡ Some Check
+        → Checked (S.left source.old) (S.left source.new) (K.written sink.old) (K.written sink.new) result.status }
+    ensures check_complete { command_of words.now ≡ Some Check → (Rose (S.faults source.old) (S.faults source.new) → ⊥) → (Rose (K.faults sink.old) (K.faults sink.new) → ⊥)
+        → CheckCompletes (S.left source.old) (S.left source.new) (K.written sink.old) (K.written sink.new) result.status }
+    ensures check_memory { command_of words.now ≡ Some Check → result.status ≢ 9 }
 
     // 2 exactly where the words are no command, and then nothing was done.
     ensures usage { (result.status ≡ 2) ↔ (command_of words.now ≡ None) }
@@ -54,6 +64,7 @@ pub fn top<S: Source, K: Sink, F: Flash, L: Link, C: Clock>(
     let status = match read_words(words) {
         None => Status::Usage,
         Some(Command::Replay) => replay(alloc, source, sink),
+        Some(Command::Check) => check(source, sink),
     };
     Ended {
         status: status.number(),

@@ -73,7 +73,24 @@ fn status_of(
     Ok(ended.status)
 }
 
-/// Runs a script over an ample sink, and looks at the status and at what was written.
+/// Runs a command without keys over an ample sink, and looks at the status and at what was written.
+fn expect_of(
+    rt: &impl Abort,
+    alloc: Global,
+    command: &str,
+    input: &[u8],
+    status: u8,
+    written: &[u8],
+) -> Result<(), Fail> {
+    let mut source = BytesSource::new(alloc, input, &[])?;
+    let mut sink = BytesSink::new(alloc, 65536, &[])?;
+    let found = status_of(alloc, &[command], &mut source, &mut sink)?;
+    assert_eq!(rt; found, status);
+    assert_eq!(rt; sink.bytes(), written);
+    Ok(())
+}
+
+/// The same of a script.
 fn expect(
     rt: &impl Abort,
     alloc: Global,
@@ -81,12 +98,7 @@ fn expect(
     status: u8,
     written: &[u8],
 ) -> Result<(), Fail> {
-    let mut source = BytesSource::new(alloc, script, &[])?;
-    let mut sink = BytesSink::new(alloc, 65536, &[])?;
-    let found = status_of(alloc, &["replay"], &mut source, &mut sink)?;
-    assert_eq!(rt; found, status);
-    assert_eq!(rt; sink.bytes(), written);
-    Ok(())
+    expect_of(rt, alloc, "replay", script, status, written)
 }
 
 #[test]
@@ -106,6 +118,8 @@ fn no_words_are_no_command(rt: HostRuntime) -> Result<(), Fail> {
     for words in [
         [].as_slice(),
         ["replay", "x"].as_slice(),
+        ["check", "x=1"].as_slice(),
+        ["checks"].as_slice(),
         ["relay"].as_slice(),
         ["Replay"].as_slice(),
     ] {
@@ -353,4 +367,77 @@ fn an_input_may_have_16777216_octets(rt: HostRuntime) -> Result<(), Fail> {
     script[16_777_215] = b'#';
     script[16_773_119] = b'#';
     expect(&rt, alloc, &script, 7, b"refused 4095 4096 long\n")
+}
+
+#[test]
+fn payloads_are_checked(rt: HostRuntime) -> Result<(), Fail> {
+    let alloc = rt.alloc();
+    for (input, status, written) in [
+        (b"".as_slice(), 0, b"".as_slice()),
+        (b"\n# a comment\n\n#", 0, b""),
+        // Unused bits are not looked at, and are written as 0.
+        (
+            b"83017f0700000000000100030000000c7c01\n",
+            0,
+            b"8301400700000000000100030000000c7c01\n",
+        ),
+        (
+            b"83017F0700000000000100030000000C7C01",
+            0,
+            b"8301400700000000000100030000000c7c01\n",
+        ),
+        (b"8306\n8305\n", 0, b"8306\n8305\n"),
+        // Hexadecimal that is wrong: at its first bad digit, or at its end.
+        (b"83g6", 7, b"refused 1 2 hex\n"),
+        (b"8306\n\n830", 7, b"8306\nrefused 3 3 hex\n"),
+        (b"8x0", 7, b"refused 1 1 hex\n"),
+        (b"8306\r\n", 7, b"refused 1 4 hex\n"),
+        (b"83 06", 7, b"refused 1 2 hex\n"),
+        (b"\xFF", 7, b"refused 1 0 hex\n"),
+        // Payloads that are wrong.
+        (b"83ff", 7, b"refused 1 0 opcode\n"),
+        (b"83", 7, b"refused 1 0 short\n"),
+        (b"6600", 7, b"refused 1 1 short\n"),
+        (b"83013f", 7, b"refused 1 2 value\n"),
+        (b"830600", 7, b"refused 1 2 long\n"),
+        (b"8306\n6600\n8306\n", 7, b"8306\nrefused 2 1 short\n"),
+    ] {
+        expect_of(&rt, alloc, "check", input, status, written)?;
+    }
+    Ok(())
+}
+
+#[test]
+fn a_line_of_a_payload_may_have_4096_octets(rt: HostRuntime) -> Result<(), Fail> {
+    let alloc = rt.alloc();
+    let mut input = vec![in alloc; b'0'; 4096]?;
+    input[..4].copy_from_slice(b"8306");
+    expect_of(&rt, alloc, "check", &input, 7, b"refused 1 380 long\n")?;
+    input.push(b'x')?;
+    expect_of(&rt, alloc, "check", &input, 7, b"refused 1 4096 long\n")?;
+    input[0] = b'#';
+    expect_of(&rt, alloc, "check", &input, 7, b"refused 1 4096 long\n")
+}
+
+#[test]
+fn payloads_may_have_any_number_of_lines(rt: HostRuntime) -> Result<(), Fail> {
+    let alloc = rt.alloc();
+    let mut input = vec![in alloc; b'\n'; 100_001]?;
+    expect_of(&rt, alloc, "check", &input, 0, b"")?;
+    input.extend_from_slice(b"8306")?;
+    expect_of(&rt, alloc, "check", &input, 0, b"8306\n")
+}
+
+#[test]
+fn a_fault_ends_a_check(rt: HostRuntime) -> Result<(), Fail> {
+    let alloc = rt.alloc();
+    let mut source = BytesSource::new(alloc, b"8306\n8305\n", &[1])?;
+    let mut sink = BytesSink::new(alloc, 65536, &[])?;
+    assert_eq!(rt; status_of(alloc, &["check"], &mut source, &mut sink)?, 3);
+    assert_eq!(rt; sink.bytes(), b"".as_slice());
+    let mut source = BytesSource::new(alloc, b"8306\n8305\n", &[])?;
+    let mut sink = BytesSink::new(alloc, 7, &[])?;
+    assert_eq!(rt; status_of(alloc, &["check"], &mut source, &mut sink)?, 4);
+    assert_eq!(rt; sink.bytes(), b"8306\n83".as_slice());
+    Ok(())
 }

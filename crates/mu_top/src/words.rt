@@ -77,6 +77,8 @@ impl WordList {
 pub enum Command {
     /// Runs the script that the source gives.
     Replay,
+    /// Writes the canonical octets of the payloads that the source gives.
+    Check,
 }
 
 /// The command that the words spell: none where the list is overfull, or where they aren't in the grammar of commands.
@@ -84,8 +86,14 @@ pub fn read_words(words: &WordList) -> Option<Command>
     ensures { option_map command result ≡ command_of words.now }
 {
     let word = words.word(0)?;
-    if word == b"replay".as_slice() && words.word(1).is_none() {
+    if words.word(1).is_some() {
+        return None;
+    }
+    if word == b"replay".as_slice() {
         return Some(Command::Replay);
+    }
+    if word == b"check".as_slice() {
+        return Some(Command::Check);
     }
     None
 }

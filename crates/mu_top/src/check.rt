@@ -1,0 +1,88 @@
+// Checking payloads.
+ghost use Rattle.std.specs.Prelude.{◌≡◌, ◌≢◌, ◌≤◌, ◌++◌, ◌∷◌, [], length, OnOk, OnErr};
+ghost use Rattle.hex.specs.Hex.{encode_lower};
+ghost use Rattle.mu_model_script.specs.Pieces.{line_feed};
+ghost use Rattle.mu_top.specs.Reading.{Wrote, WroteSome};
+ghost use Rattle.mu_model_flash.specs.Cause.{HasCause, Rose};
+ghost use Rattle.mu_model_script.specs.Limits.{most_octets};
+ghost use Rattle.mu_top.specs.Ends.{Completes, Ends};
+ghost use Rattle.mu_top.specs.Payloads.{BarsPayload, DoesPayload, checked, no_state};
+
+use crate::payload::read_payload;
+use crate::status::Status;
+use crate::work::{LineStop, LineWork, run};
+use crate::writing::write_pieces;
+use mu_access::write;
+use mu_outside::{Failed, Sink, Source};
+use std::marker::Model;
+
+/// As many lines as octets: no limit beside that on octets.
+const MOST_LINES: u32 = 16_777_216;
+
+/// Writes the canonical octets of each payload.
+#[derive(Drop)]
+struct CheckWork;
+
+impl Model for CheckWork {
+    ghost Value = { Unit {0} };
+
+    ghost view = { λ _. tt };
+}
+
+impl LineWork for CheckWork {
+    ghost use Rattle.std.specs.Prelude.{◌≡◌, ◌≤◌, ◌<◌, length, OnOk, IfErr};
+    ghost use Rattle.std.proofs.lemmas.Bool.{lt-ltb};
+    ghost use Rattle.std.proofs.Common.{refl};
+    ghost use Rattle.mu_model_flash.specs.Cause.{Rose};
+    ghost use Rattle.mu_top.specs.LineDone.{DidLine, StopsLine};
+    ghost use Rattle.mu_top.specs.Payloads.{BarsPayload, DoesPayload, checked};
+
+    ghost does = { DoesPayload checked };
+
+    ghost bars = { BarsPayload };
+
+    ghost grows = { λ _. ⊥ };
+
+    ghost too_long = { λ state line long. rw (lt-ltb 4096 (length line) long) refl };
+
+    fn do_line<K: Sink>(&mut self, line: &[u8], sink: &mut K) -> Result<(), LineStop> {
+        let mut room = [0; 2048];
+        let message = match read_payload(line, &mut room) {
+            Ok(Some(message)) => message,
+            Ok(None) => return Ok(()),
+            Err(stop) => return Err(stop),
+        };
+        match write_octets(sink, write(&message).as_slice()) {
+            Ok(()) => Ok(()),
+            Err(_) => Err(LineStop::Sink),
+        }
+    }
+}
+
+/// Writes a line of at most 380 octets in hexadecimal.
+fn write_octets<K: Sink>(sink: &mut K, octets: &[u8]) -> Result<(), Failed>
+    requires { length octets.now ≤ 380 }
+    ensures ok { OnOk result (Wrote (K.written sink.old) (K.written sink.new) (encode_lower octets.now ++ line_feed ∷ [])) }
+    ensures err { OnErr result (WroteSome (K.written sink.old) (K.written sink.new) (encode_lower octets.now ++ line_feed ∷ [])) }
+    ensures cause { HasCause (K.faults sink.old) (K.faults sink.new) result }
+{
+    let mut room = [0; 760];
+    let digits = &mut room[..2 * octets.len()];
+    if hex::encode_to_slice(octets, digits).is_err() {
+        prove!(false);
+    }
+    write_pieces(sink, &[digits, b"\n"])
+}
+
+/// Checks the payloads that the source gives, line by line.
+pub(crate) fn check<S: Source, K: Sink>(source: &mut S, sink: &mut K) -> Status
+    ensures ends { Ends (DoesPayload checked) BarsPayload no_state most_octets (S.left source.old) (S.left source.new) (K.written sink.old) (K.written sink.new) result }
+    ensures complete { (Rose (S.faults source.old) (S.faults source.new) → ⊥) → (Rose (K.faults sink.old) (K.faults sink.new) → ⊥)
+        → Completes (DoesPayload checked) BarsPayload no_state most_octets (S.left source.old) (S.left source.new) (K.written sink.old) (K.written sink.new) result }
+    ensures source { result ≡ Status.SourceFault → Rose (S.faults source.old) (S.faults source.new) }
+    ensures sink { result ≡ Status.SinkFault → Rose (K.faults sink.old) (K.faults sink.new) }
+    ensures memory { result ≢ Status.NoMemory }
+    ensures command { result ≢ Status.Usage }
+{
+    run(&mut CheckWork, MOST_LINES, source, sink)
+}
