@@ -1,16 +1,16 @@
 -- Facts about what is told before and after calls.
-use Rattle.std.proofs.Common.{◌≡◌, map, ℕ, zero, suc, ◌∷◌, ◌+◌, ◌-◌, ◌/◌, ◌%◌, ◌<◌, get_or, slice_index, ◌^◌, ◌≤◌, ◌++◌, [], length, length-drop, length-take, arith, take, drop, sym, ap, ◌∙◌, append_assoc, take-add, List, Option, Some, None, Bool, true, false, if◌then◌else◌, Result, Ok, Err, refl, subst, inl, inr}
+use Rattle.std.proofs.Common.{◌≡◌, map, ℕ, zero, suc, ◌∷◌, ◌+◌, ◌-◌, ◌/◌, ◌%◌, ◌<◌, get_or, slice_index, ◌≤◌, ◌++◌, [], length, length-drop, arith, take, drop, sym, ap, ◌∙◌, append_assoc, take-add, List, Option, Some, None, Result, Ok, Err, refl, subst, inl, inr}
 use Rattle.std.proofs.lemmas.Bool.{cases_lt}
 use Rattle.std.proofs.lemmas.List.{take_all, take-append-le, append-nil}
 use Rattle.std.specs.Result.{OnOk, OnErr}
 use Rattle.std.specs.List.{flat_map}
 use Rattle.mu_model_wire.specs.Fields.{Shown}
-use Rattle.mu_shown.specs.Lines.{joined, entry_text, entries_text, field_text, list_text}
+use Rattle.mu_shown.specs.Lines.{joined, entry_text, entries_text, field_text}
 use Rattle.mu_shown.specs.Seen.{seen, field_seen}
 use Rattle.mu_shown.specs.declared.fields.Field.{Field}
 use Rattle.hex.specs.Hex.{encode_lower, encode_with, lower_digits}
 use Rattle.mu_outside.specs.Stream.{WriteTakes}
-use Rattle.mu_model_flash.specs.Cause.{HasCause, Rose}
+use Rattle.mu_model_flash.specs.Cause.{HasCause}
 use Rattle.mu_model_flash.specs.declared.Failed.{Failed}
 use Rattle.mu_shown.specs.Written.{Wrote, WroteSome, Writes, Adds}
 
@@ -70,8 +70,10 @@ pub adds_nothing : {A : Type 0} (o : Option (List ℕ)) (f : ℕ) (r : Result A 
 adds_nothing o f r = record { adds = λ start begin earlier w. subst (λ t. Writes start o begin f r t) (sym (append-nil earlier)) w }
 
 pub adds_then : {A : Type 0} {o m n : Option (List ℕ)} {f g h : ℕ} {r s t : Result A Failed} {xs ys : List ℕ} → Adds o m f g r s xs → Adds m n g h s t ys → Adds o n f h r t (xs ++ ys)
-adds_then {n = n} {h = h} {t = t} {xs = xs} {ys = ys} first more = record { adds = λ start begin earlier w.
-    subst (λ z. Writes start n begin h t z) (append_assoc earlier xs ys) (more.adds start begin (earlier ++ xs) (first.adds start begin earlier w)) }
+adds_then {n = n} {h = h} {t = t} {xs = xs} {ys = ys} first more = record {
+  adds = λ start begin earlier w.
+      subst (λ z. Writes start n begin h t z) (append_assoc earlier xs ys) (more.adds start begin (earlier ++ xs) (first.adds start begin earlier w));
+}
 
 pub adds_as : {A : Type 0} {o n : Option (List ℕ)} {f g : ℕ} {r s : Result A Failed} {xs ys : List ℕ} → xs ≡ ys → Adds o n f g r s xs → Adds o n f g r s ys
 adds_as {o = o} {n = n} {f = f} {g = g} {r = r} {s = s} same adds = subst (λ t. Adds o n f g r s t) same adds
@@ -145,8 +147,3 @@ twice f g (x ∷ xs) = ap (λ t. f (g x) ∷ t) (twice f g xs)
 
 pub seen_texts : (fs : List Field) → flat_map field_seen fs ≡ flat_map field_text (map seen fs)
 seen_texts fs = sym (flat-same field_text seen fs)
-
--- no list, whichever way a row goes on
-pub no_list : (b : Bool) (entries : List (List Shown)) → list_text (if b then None else None) entries ≡ []
-no_list true entries = refl
-no_list false entries = refl

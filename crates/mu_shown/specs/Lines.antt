@@ -4,7 +4,7 @@ use Rattle.std.specs.Prelude.{ℕ, List, [], ◌∷◌, ◌++◌, map, take, dro
 use Rattle.std.specs.List.{flat_map, join_by}
 use Rattle.std.specs.Fmt.{decimal}
 use Rattle.hex.specs.Hex.{encode_lower}
-use Rattle.mu_model_wire.specs.Fields.{Field, Fields, end, rest, repeated, ◌▹◌, when, where_left, Shown, number, octets, Message}
+use Rattle.mu_model_wire.specs.Fields.{Fields, end, rest, repeated, ◌▹◌, when, where_left, Shown, number, octets, Message}
 use Rattle.mu_model_wire.specs.Names.{field_texts, message_texts, text_of}
 use Rattle.mu_model_wire.specs.Reading.{value_of, is_one_of, fields_of}
 use Rattle.mu_model_wire.specs.Spelling.{shown_count, begins_with}

@@ -1,5 +1,5 @@
 -- What fields, lists and lines in memory show.
-use Rattle.std.specs.Prelude.{◌≡◌, ℕ, List, [], ◌∷◌, ◌++◌, map}
+use Rattle.std.specs.Prelude.{◌≡◌, ℕ, List, [], map}
 use Rattle.mu_model_wire.specs.Fields.{Shown, number, octets, Message}
 use Rattle.mu_model_wire.specs.Names.{field_texts, message_texts, text_of}
 use Rattle.mu_model_wire.specs.Names as names

@@ -7,18 +7,20 @@ ghost use Rattle.mu_shown.specs.Lines.{shown_line};
 ghost use Rattle.mu_shown.specs.Seen.{seen, Shows};
 ghost use Rattle.mu_shown.specs.Written.{Writes};
 
-use crate::fields::{Fields, number, number_there, octets, octets_there, of_octet, of_two, of_four};
+use crate::fields::{
+    Fields, number, number_there, octets, octets_there, of_four, of_octet, of_two,
+};
 use crate::lines::Line;
 use crate::lists::List;
 use crate::names::Name;
 use crate::writing::{put_bare, put_line};
-use mu_outside::{Failed, Sink};
 use arrayvec::ArrayVec;
 use mu_blobmsg::BlobMsg;
+use mu_outside::{Failed, Sink};
 use mu_report::Report;
 
 /// Writes the line that shows a message of the BLOB Transfer model.
-pub(crate) fn show<K: Sink>(msg: &BlobMsg, sink: &mut K) -> Result<(), Failed>
+pub fn show_blob<K: Sink>(msg: &BlobMsg, sink: &mut K) -> Result<(), Failed>
     ensures { Writes (K.written sink.old) (K.written sink.new) (K.faults sink.old) (K.faults sink.new) result (shown_line (view msg.now)) }
 {
     match msg {
@@ -30,9 +32,7 @@ pub(crate) fn show<K: Sink>(msg: &BlobMsg, sink: &mut K) -> Result<(), Failed>
             log,
             mtu,
         } => put_line(sink, &transfer_start(*mode, *id, *size, *log, *mtu)),
-        BlobMsg::TransferCancel {
-            id,
-        } => put_line(sink, &transfer_cancel(*id)),
+        BlobMsg::TransferCancel { id } => put_line(sink, &transfer_cancel(*id)),
         BlobMsg::TransferStatus {
             status,
             mode,
@@ -42,11 +42,14 @@ pub(crate) fn show<K: Sink>(msg: &BlobMsg, sink: &mut K) -> Result<(), Failed>
             log,
             mtu,
             blocks,
-        } => put_line(sink, &transfer_status(*status, *mode, *phase, *id, *size, *log, *mtu, *blocks)),
-        BlobMsg::BlockStart {
-            block,
-            chunk_size,
-        } => put_line(sink, &block_start(*block, *chunk_size)),
+        } => put_line(
+            sink,
+            &transfer_status(*status, *mode, *phase, *id, *size, *log, *mtu, *blocks),
+        ),
+        BlobMsg::BlockStart { block, chunk_size } => put_line(
+            sink,
+            &block_start(*block, *chunk_size),
+        ),
         BlobMsg::BlockGet => put_bare(sink, b"block-get"),
         BlobMsg::BlobInformationGet => put_bare(sink, b"blob-information-get"),
         BlobMsg::BlobInformationStatus {
@@ -58,20 +61,27 @@ pub(crate) fn show<K: Sink>(msg: &BlobMsg, sink: &mut K) -> Result<(), Failed>
             mtu,
             push,
             pull,
-        } => put_line(sink, &blob_information_status(*min_log, *max_log, *max_chunks, *max_chunk_size, *max_size, *mtu, *push, *pull)),
-        BlobMsg::ChunkTransfer {
-            chunk,
-            octets,
-        } => put_line(sink, &chunk_transfer(*chunk, octets)),
+        } => put_line(
+            sink,
+            &blob_information_status(
+                *min_log,
+                *max_log,
+                *max_chunks,
+                *max_chunk_size,
+                *max_size,
+                *mtu,
+                *push,
+                *pull,
+            ),
+        ),
+        BlobMsg::ChunkTransfer { chunk, octets } => put_line(sink, &chunk_transfer(*chunk, octets)),
         BlobMsg::BlockStatus {
             status,
             block,
             chunk_size,
             report,
         } => block_status(*status, *block, *chunk_size, report, sink),
-        BlobMsg::PartialBlockReport {
-            missing,
-        } => put_line(sink, &partial_block_report(missing)),
+        BlobMsg::PartialBlockReport { missing } => put_line(sink, &partial_block_report(missing)),
     }
 }
 
@@ -195,14 +205,23 @@ fn partial_block_report<'m, 'a>(missing: &'m ArrayVec<u16, 379>) -> Line<'m, 'a>
     }
 }
 
-fn block_status<K: Sink>(status: u8, block: u16, chunk_size: u16, report: &Report, sink: &mut K) -> Result<(), Failed>
+fn block_status<K: Sink>(
+    status: u8,
+    block: u16,
+    chunk_size: u16,
+    report: &Report,
+    sink: &mut K,
+) -> Result<(), Failed>
     ensures { Writes (K.written sink.old) (K.written sink.new) (K.faults sink.old) (K.faults sink.new) result (shown_line (view (BlobMsg.BlockStatus status block chunk_size report.now))) }
 {
     match report {
         Report::All => put_line(sink, &block_status_all(status, block, chunk_size)),
         Report::Nothing => put_line(sink, &block_status_nothing(status, block, chunk_size)),
         Report::Bits(bits) => put_line(sink, &block_status_bits(status, block, chunk_size, bits)),
-        Report::List(missing) => put_line(sink, &block_status_list(status, block, chunk_size, missing)),
+        Report::List(missing) => put_line(
+            sink,
+            &block_status_list(status, block, chunk_size, missing),
+        ),
     }
 }
 
@@ -226,7 +245,12 @@ fn block_status_nothing<'m, 'a>(status: u8, block: u16, chunk_size: u16) -> Line
     }
 }
 
-fn block_status_bits<'m, 'a>(status: u8, block: u16, chunk_size: u16, bits: &'m ArrayVec<u8, 374>) -> Line<'m, 'a>
+fn block_status_bits<'m, 'a>(
+    status: u8,
+    block: u16,
+    chunk_size: u16,
+    bits: &'m ArrayVec<u8, 374>,
+) -> Line<'m, 'a>
     ensures { Shows result (view (BlobMsg.BlockStatus status block chunk_size (Report.Bits bits.now))) }
 {
     let mut fields = of_block(status, 2, block, chunk_size);
@@ -238,7 +262,12 @@ fn block_status_bits<'m, 'a>(status: u8, block: u16, chunk_size: u16, bits: &'m 
     }
 }
 
-fn block_status_list<'m, 'a>(status: u8, block: u16, chunk_size: u16, missing: &'m ArrayVec<u16, 374>) -> Line<'m, 'a>
+fn block_status_list<'m, 'a>(
+    status: u8,
+    block: u16,
+    chunk_size: u16,
+    missing: &'m ArrayVec<u16, 374>,
+) -> Line<'m, 'a>
     ensures { Shows result (view (BlobMsg.BlockStatus status block chunk_size (Report.List missing.now))) }
 {
     Line {

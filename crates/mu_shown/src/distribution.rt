@@ -3,32 +3,29 @@ ghost use Rattle.mu_shown.specs.Lines.{shown_line};
 ghost use Rattle.mu_shown.specs.Seen.{Shows};
 ghost use Rattle.mu_shown.specs.Written.{Writes};
 
-use crate::fields::{Fields, label_there, number, number_there, octets, octets_there, of_octet, of_two};
+use crate::fields::{
+    Fields, label_there, number, number_there, octets, octets_there, of_octet, of_two,
+};
 use crate::lines::Line;
 use crate::lists::List;
 use crate::names::Name;
 use crate::writing::{put_bare, put_line};
-use mu_outside::{Failed, Sink};
 use arrayvec::ArrayVec;
 use mu_distmsg::{DistMsg, ReceiverRow};
+use mu_outside::{Failed, Sink};
 
 /// Writes the line that shows a message of the Firmware Distribution model.
-pub(crate) fn show<K: Sink>(msg: &DistMsg, sink: &mut K) -> Result<(), Failed>
+pub fn show_distribution<K: Sink>(msg: &DistMsg, sink: &mut K) -> Result<(), Failed>
     ensures { Writes (K.written sink.old) (K.written sink.new) (K.faults sink.old) (K.faults sink.new) result (shown_line (view msg.now)) }
 {
     match msg {
-        DistMsg::ReceiversAdd {
-            entries,
-        } => put_line(sink, &receivers_add(entries)),
+        DistMsg::ReceiversAdd { entries } => put_line(sink, &receivers_add(entries)),
         DistMsg::ReceiversDeleteAll => put_bare(sink, b"receivers-delete-all"),
-        DistMsg::ReceiversStatus {
-            status,
-            count,
-        } => put_line(sink, &receivers_status(*status, *count)),
-        DistMsg::ReceiversGet {
-            first,
-            limit,
-        } => put_line(sink, &receivers_get(*first, *limit)),
+        DistMsg::ReceiversStatus { status, count } => put_line(
+            sink,
+            &receivers_status(*status, *count),
+        ),
+        DistMsg::ReceiversGet { first, limit } => put_line(sink, &receivers_get(*first, *limit)),
         DistMsg::ReceiversList {
             count,
             first,
@@ -43,7 +40,12 @@ pub(crate) fn show<K: Sink>(msg: &DistMsg, sink: &mut K) -> Result<(), Failed>
             remaining,
             oob,
             schemes,
-        } => put_line(sink, &capabilities_status(*receivers, *images, *max_size, *space, *remaining, *oob, schemes)),
+        } => put_line(
+            sink,
+            &capabilities_status(
+                *receivers, *images, *max_size, *space, *remaining, *oob, schemes,
+            ),
+        ),
         DistMsg::DistributionGet => put_bare(sink, b"distribution-get"),
         DistMsg::DistributionStart {
             appkey,
@@ -54,7 +56,10 @@ pub(crate) fn show<K: Sink>(msg: &DistMsg, sink: &mut K) -> Result<(), Failed>
             image,
             label,
             group,
-        } => put_line(sink, &distribution_start(*appkey, *ttl, *base, *mode, *policy, *image, label, *group)),
+        } => put_line(
+            sink,
+            &distribution_start(*appkey, *ttl, *base, *mode, *policy, *image, label, *group),
+        ),
         DistMsg::DistributionSuspend => put_bare(sink, b"distribution-suspend"),
         DistMsg::DistributionCancel => put_bare(sink, b"distribution-cancel"),
         DistMsg::DistributionApply => put_bare(sink, b"distribution-apply"),
@@ -68,7 +73,12 @@ pub(crate) fn show<K: Sink>(msg: &DistMsg, sink: &mut K) -> Result<(), Failed>
             mode,
             policy,
             image,
-        } => put_line(sink, &distribution_status(*status, *phase, *group, *appkey, *ttl, *base, *mode, *policy, *image)),
+        } => put_line(
+            sink,
+            &distribution_status(
+                *status, *phase, *group, *appkey, *ttl, *base, *mode, *policy, *image,
+            ),
+        ),
         DistMsg::UploadGet => put_bare(sink, b"upload-get"),
         DistMsg::UploadStart {
             ttl,
@@ -78,10 +88,7 @@ pub(crate) fn show<K: Sink>(msg: &DistMsg, sink: &mut K) -> Result<(), Failed>
             metadata,
             fwid,
         } => put_line(sink, &upload_start(*ttl, *base, *id, *size, metadata, fwid)),
-        DistMsg::UploadStartOob {
-            uri,
-            fwid,
-        } => put_line(sink, &upload_start_oob(uri, fwid)),
+        DistMsg::UploadStartOob { uri, fwid } => put_line(sink, &upload_start_oob(uri, fwid)),
         DistMsg::UploadCancel => put_bare(sink, b"upload-cancel"),
         DistMsg::UploadStatus {
             status,
@@ -89,16 +96,13 @@ pub(crate) fn show<K: Sink>(msg: &DistMsg, sink: &mut K) -> Result<(), Failed>
             progress,
             kind,
             fwid,
-        } => put_line(sink, &upload_status(*status, *phase, *progress, *kind, *fwid)),
-        DistMsg::FirmwareGet {
-            fwid,
-        } => put_line(sink, &firmware_get(fwid)),
-        DistMsg::FirmwareGetByIndex {
-            index,
-        } => put_line(sink, &firmware_get_by_index(*index)),
-        DistMsg::FirmwareDelete {
-            fwid,
-        } => put_line(sink, &firmware_delete(fwid)),
+        } => put_line(
+            sink,
+            &upload_status(*status, *phase, *progress, *kind, *fwid),
+        ),
+        DistMsg::FirmwareGet { fwid } => put_line(sink, &firmware_get(fwid)),
+        DistMsg::FirmwareGetByIndex { index } => put_line(sink, &firmware_get_by_index(*index)),
+        DistMsg::FirmwareDelete { fwid } => put_line(sink, &firmware_delete(fwid)),
         DistMsg::FirmwareDeleteAll => put_bare(sink, b"firmware-delete-all"),
         DistMsg::FirmwareStatus {
             status,

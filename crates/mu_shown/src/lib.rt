@@ -1,4 +1,5 @@
-//! The line that shows a message.
+//! The lines that show messages (this profile): a message's name, then a blank, a name, an equals sign and a value for
+//! each field that is there.
 #![tactic(auto)]
 
 mod blob;
@@ -7,8 +8,11 @@ mod fields;
 mod lines;
 mod lists;
 mod names;
-mod showing;
+#[cfg(test)]
+mod tests;
 mod update;
 mod writing;
 
-pub use showing::show;
+pub use blob::show_blob;
+pub use distribution::show_distribution;
+pub use update::show_update;

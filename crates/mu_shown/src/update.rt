@@ -8,28 +8,25 @@ use crate::lines::Line;
 use crate::lists::List;
 use crate::names::Name;
 use crate::writing::{put_bare, put_line};
-use mu_outside::{Failed, Sink};
 use arrayvec::ArrayVec;
+use mu_outside::{Failed, Sink};
 use mu_updmsg::{Entry, UpdMsg};
 
 /// Writes the line that shows a message of the Firmware Update model.
-pub(crate) fn show<K: Sink>(msg: &UpdMsg, sink: &mut K) -> Result<(), Failed>
+pub fn show_update<K: Sink>(msg: &UpdMsg, sink: &mut K) -> Result<(), Failed>
     ensures { Writes (K.written sink.old) (K.written sink.new) (K.faults sink.old) (K.faults sink.new) result (shown_line (view msg.now)) }
 {
     match msg {
-        UpdMsg::InformationGet {
-            first,
-            limit,
-        } => put_line(sink, &information_get(*first, *limit)),
+        UpdMsg::InformationGet { first, limit } => put_line(sink, &information_get(*first, *limit)),
         UpdMsg::InformationStatus {
             count,
             first,
             entries,
         } => put_line(sink, &information_status(*count, *first, entries)),
-        UpdMsg::MetadataCheck {
-            index,
-            metadata,
-        } => put_line(sink, &metadata_check(*index, metadata)),
+        UpdMsg::MetadataCheck { index, metadata } => put_line(
+            sink,
+            &metadata_check(*index, metadata),
+        ),
         UpdMsg::MetadataStatus {
             status,
             additional,
@@ -53,7 +50,10 @@ pub(crate) fn show<K: Sink>(msg: &UpdMsg, sink: &mut K) -> Result<(), Failed>
             base,
             id,
             index,
-        } => put_line(sink, &update_status(*status, *phase, *ttl, *additional, *base, *id, *index)),
+        } => put_line(
+            sink,
+            &update_status(*status, *phase, *ttl, *additional, *base, *id, *index),
+        ),
     }
 }
 

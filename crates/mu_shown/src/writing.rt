@@ -29,7 +29,11 @@ pub(crate) fn write_all<K: Sink>(sink: &mut K, bytes: &[u8]) -> Result<(), Faile
 }
 
 /// Writes a text behind others, and nothing where one of these failed.
-pub(crate) fn put<K: Sink>(sink: &mut K, so_far: Result<(), Failed>, bytes: &[u8]) -> Result<(), Failed>
+pub(crate) fn put<K: Sink>(
+    sink: &mut K,
+    so_far: Result<(), Failed>,
+    bytes: &[u8],
+) -> Result<(), Failed>
     ensures { Adds (K.written sink.old) (K.written sink.new) (K.faults sink.old) (K.faults sink.new) so_far result bytes.now }
 {
     match so_far {
@@ -38,14 +42,22 @@ pub(crate) fn put<K: Sink>(sink: &mut K, so_far: Result<(), Failed>, bytes: &[u8
     }
 }
 
-pub(crate) fn put_number<K: Sink>(sink: &mut K, so_far: Result<(), Failed>, number: u64) -> Result<(), Failed>
+pub(crate) fn put_number<K: Sink>(
+    sink: &mut K,
+    so_far: Result<(), Failed>,
+    number: u64,
+) -> Result<(), Failed>
     ensures { Adds (K.written sink.old) (K.written sink.new) (K.faults sink.old) (K.faults sink.new) so_far result (decimal number) }
 {
     let mut buffer = Buffer::new();
     put(sink, so_far, buffer.format(number).as_bytes())
 }
 
-pub(crate) fn put_hex<K: Sink>(sink: &mut K, so_far: Result<(), Failed>, octets: &[u8]) -> Result<(), Failed>
+pub(crate) fn put_hex<K: Sink>(
+    sink: &mut K,
+    so_far: Result<(), Failed>,
+    octets: &[u8],
+) -> Result<(), Failed>
     ensures { Adds (K.written sink.old) (K.written sink.new) (K.faults sink.old) (K.faults sink.new) so_far result (encode_lower octets.now) }
 {
     let mut done = so_far;
@@ -65,7 +77,11 @@ fn digits(octet: u8) -> [u8; 2]
     digits
 }
 
-pub(crate) fn put_value<K: Sink>(sink: &mut K, so_far: Result<(), Failed>, field: &Field) -> Result<(), Failed>
+pub(crate) fn put_value<K: Sink>(
+    sink: &mut K,
+    so_far: Result<(), Failed>,
+    field: &Field,
+) -> Result<(), Failed>
     ensures { Adds (K.written sink.old) (K.written sink.new) (K.faults sink.old) (K.faults sink.new) so_far result (value_seen field.now) }
 {
     match field {
@@ -90,7 +106,11 @@ fn put_field<K: Sink>(sink: &mut K, so_far: Result<(), Failed>, field: &Field) -
     put_value(sink, named, field)
 }
 
-pub(crate) fn put_fields<K: Sink>(sink: &mut K, so_far: Result<(), Failed>, fields: &[Field]) -> Result<(), Failed>
+pub(crate) fn put_fields<K: Sink>(
+    sink: &mut K,
+    so_far: Result<(), Failed>,
+    fields: &[Field],
+) -> Result<(), Failed>
     ensures { Adds (K.written sink.old) (K.written sink.new) (K.faults sink.old) (K.faults sink.new) so_far result (flat_map field_seen fields.now) }
 {
     let mut done = so_far;
@@ -107,7 +127,11 @@ fn put_other<K: Sink>(sink: &mut K, so_far: Result<(), Failed>, field: &Field) -
     put_value(sink, colon, field)
 }
 
-fn put_others<K: Sink>(sink: &mut K, so_far: Result<(), Failed>, fields: &[Field]) -> Result<(), Failed>
+fn put_others<K: Sink>(
+    sink: &mut K,
+    so_far: Result<(), Failed>,
+    fields: &[Field],
+) -> Result<(), Failed>
     ensures { Adds (K.written sink.old) (K.written sink.new) (K.faults sink.old) (K.faults sink.new) so_far result (flat_map (λ f. 58 ∷ value_seen f) fields.now) }
 {
     let mut done = so_far;
@@ -117,7 +141,11 @@ fn put_others<K: Sink>(sink: &mut K, so_far: Result<(), Failed>, fields: &[Field
     done
 }
 
-fn put_entry<K: Sink>(sink: &mut K, so_far: Result<(), Failed>, fields: &[Field]) -> Result<(), Failed>
+fn put_entry<K: Sink>(
+    sink: &mut K,
+    so_far: Result<(), Failed>,
+    fields: &[Field],
+) -> Result<(), Failed>
     ensures { Adds (K.written sink.old) (K.written sink.new) (K.faults sink.old) (K.faults sink.new) so_far result (entry_text (map seen fields.now)) }
 {
     if fields.is_empty() {
@@ -127,7 +155,12 @@ fn put_entry<K: Sink>(sink: &mut K, so_far: Result<(), Failed>, fields: &[Field]
     put_others(sink, first, &fields[1..])
 }
 
-fn put_next<K: Sink>(sink: &mut K, so_far: Result<(), Failed>, list: &List, place: usize) -> Result<(), Failed>
+fn put_next<K: Sink>(
+    sink: &mut K,
+    so_far: Result<(), Failed>,
+    list: &List,
+    place: usize,
+) -> Result<(), Failed>
     requires { place < length (list_shown list.now) }
     ensures { Adds (K.written sink.old) (K.written sink.new) (K.faults sink.old) (K.faults sink.new) so_far result (44 ∷ entry_text (slice_index_or (list_shown list.now) place [])) }
 {
@@ -156,7 +189,12 @@ fn put_entries<K: Sink>(sink: &mut K, so_far: Result<(), Failed>, list: &List) -
     put_more(sink, first, list)
 }
 
-fn put_named<K: Sink>(sink: &mut K, so_far: Result<(), Failed>, name: &[u8], list: &List) -> Result<(), Failed>
+fn put_named<K: Sink>(
+    sink: &mut K,
+    so_far: Result<(), Failed>,
+    name: &[u8],
+    list: &List,
+) -> Result<(), Failed>
     ensures { Adds (K.written sink.old) (K.written sink.new) (K.faults sink.old) (K.faults sink.new) so_far result (named name.now (entries_text (list_shown list.now))) }
 {
     let started = put_name(sink, so_far, name);

@@ -1,9 +1,4 @@
-use Rattle.std.proofs.Common.{◌≡◌, ◌≤◌, ◌<◌, ℕ, sym, ap, ◌∙◌, refl, get_or, take, drop, length, map, ◌++◌, ◌∷◌, [], arith}
-use Rattle.std.specs.List.{flat_map}
-use Rattle.mu_shown.specs.Lines.{field_text, joined, entry_text, value_text, entries_text, named}
-use Rattle.mu_shown.specs.Seen.{seen, value_seen, field_seen, list_shown, list_seen}
-use Rattle.mu_shown.specs.declared.fields.Field.{Field}
-use Rattle.mu_shown.proofs.Told.{adds_nothing, adds_then, adds_as, hex_more, take_more, flat_more, joined_map, joined_entries, next_entry, added, twice, seen_texts}
+use Rattle.mu_shown.proofs.Told.{adds_then, added}
 use Rattle.mu_shown.proofs.writing.put_bare.Goals as goal
 
 pub returns : goal.returns

@@ -1,6 +1,6 @@
 use Rattle.std.proofs.Common.{take, ◌∷◌}
 use Rattle.std.specs.List.{flat_map}
-use Rattle.mu_shown.specs.Seen.{seen, value_seen}
+use Rattle.mu_shown.specs.Seen.{value_seen}
 use Rattle.mu_shown.specs.Written.{Adds}
 use Rattle.mu_shown.proofs.writing.put_others.Given as goal
 

@@ -1,4 +1,4 @@
-use Rattle.std.proofs.Common.{arith, ◌≤◌, ◌+◌, length, length-take, length-drop}
+use Rattle.std.proofs.Common.{arith, length-take, length-drop}
 use Rattle.mu_shown.proofs.Told.{wrote_more}
 use Rattle.mu_shown.proofs.writing.write_all.Goals as goal
 

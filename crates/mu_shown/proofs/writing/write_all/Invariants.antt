@@ -1,4 +1,4 @@
-use Rattle.std.proofs.Common.{◌≡◌, ℕ, ◌-◌, ◌≤◌, length, take, List}
+use Rattle.std.proofs.Common.{◌-◌, ◌≤◌, length, take}
 use Rattle.mu_shown.specs.Written.{Wrote}
 use Rattle.mu_shown.proofs.writing.write_all.Given as goal
 

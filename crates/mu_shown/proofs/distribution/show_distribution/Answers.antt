@@ -1,5 +1,4 @@
-use Rattle.std.proofs.Common.{refl}
-use Rattle.mu_shown.proofs.distribution.show.Goals as goal
+use Rattle.mu_shown.proofs.distribution.show_distribution.Goals as goal
 
 pub returns-in-ReceiversAdd : goal.returns-in-ReceiversAdd
 returns-in-ReceiversAdd g c = rw c.in-ReceiversAdd.is (c.put_line.ensures _ c.receivers_add.ensures)

@@ -1,5 +1,4 @@
-use Rattle.std.proofs.Common.{refl}
-use Rattle.mu_shown.proofs.update.show.Goals as goal
+use Rattle.mu_shown.proofs.update.show_update.Goals as goal
 
 pub returns-in-InformationGet : goal.returns-in-InformationGet
 returns-in-InformationGet g c = rw c.in-InformationGet.is (c.put_line.ensures _ c.information_get.ensures)

@@ -1,5 +1,4 @@
-use Rattle.std.proofs.Common.{refl}
-use Rattle.mu_shown.proofs.blob.show.Goals as goal
+use Rattle.mu_shown.proofs.blob.show_blob.Goals as goal
 
 pub returns-in-TransferStart : goal.returns-in-TransferStart
 returns-in-TransferStart g c = rw c.in-TransferStart.is (c.put_line.ensures _ c.transfer_start.ensures)
