@@ -36,19 +36,22 @@ command HeldReplay = Replay
 command HeldCheck = Check
 command HeldShow = Show
 
+abbrev pub command_named : List ℕ → Option Command
+command_named word =
+    if bytes_eq word (codes "replay") then Some Replay
+    else if bytes_eq word (codes "check") then Some Check
+    else if bytes_eq word (codes "show") then Some Show
+    else None
+
 -- a command without keys
-abbrev pub without_keys : Command → List (List ℕ) → Option Command
-without_keys command [] = Some command
-without_keys command (key ∷ keys) = None
+abbrev pub without_keys : Option Command → List (List ℕ) → Option Command
+without_keys found [] = found
+without_keys found (key ∷ keys) = None
 
 -- the first word is the command, the others are its keys
 abbrev pub command_by : List (List ℕ) → Option Command
 command_by [] = None
-command_by (word ∷ keys) =
-    if bytes_eq word (codes "replay") then without_keys Replay keys
-    else if bytes_eq word (codes "check") then without_keys Check keys
-    else if bytes_eq word (codes "show") then without_keys Show keys
-    else None
+command_by (word ∷ keys) = without_keys (command_named word) keys
 
 abbrev pub command_of : Option (List (List ℕ)) → Option Command
 command_of None = None

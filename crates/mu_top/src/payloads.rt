@@ -37,12 +37,14 @@ impl LineWork for PayloadText {
     ghost use Rattle.mu_top.specs.Payloads.{BarsPayload, DoesPayload};
 
     ghost does = { DoesPayload };
+
     ghost bars = { BarsPayload };
+
     ghost grows = { λ _. ⊥ };
+
     ghost too_long = { λ state line long. rw (lt-ltb 4096 (length line) long) refl };
 
-    fn do_line<K: Sink>(&mut self, line: &[u8], sink: &mut K) -> Result<(), LineStop>
-    {
+    fn do_line<K: Sink>(&mut self, line: &[u8], sink: &mut K) -> Result<(), LineStop> {
         let mut room = [0; 2048];
         let message = match read_payload(line, &mut room) {
             Ok(Some(message)) => message,
@@ -85,7 +87,11 @@ fn write_octets<K: Sink>(sink: &mut K, octets: &[u8]) -> Result<(), Failed>
 }
 
 /// Prints the payloads that the source gives, line by line.
-pub(crate) fn print_payloads<S: Source, K: Sink>(text: PayloadText, source: &mut S, sink: &mut K) -> Status
+pub(crate) fn print_payloads<S: Source, K: Sink>(
+    text: PayloadText,
+    source: &mut S,
+    sink: &mut K,
+) -> Status
     ensures ends { Ends DoesPayload BarsPayload text most_octets (S.left source.old) (S.left source.new) (K.written sink.old) (K.written sink.new) result }
     ensures complete { (Rose (S.faults source.old) (S.faults source.new) → ⊥) → (Rose (K.faults sink.old) (K.faults sink.new) → ⊥)
         → Completes DoesPayload BarsPayload text most_octets (S.left source.old) (S.left source.new) (K.written sink.old) (K.written sink.new) result }

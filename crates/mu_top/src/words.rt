@@ -1,6 +1,6 @@
 ghost use Rattle.std.specs.Prelude.{◌≡◌, [], Some};
 ghost use Rattle.std.specs.Option.{option_copied, option_map};
-ghost use Rattle.mu_top.specs.Words.{with_word, word_at, command, command_of};
+ghost use Rattle.mu_top.specs.Words.{with_word, word_at, command, command_named, command_of};
 
 use arrayvec::ArrayVec;
 use std::marker::Model;
@@ -83,14 +83,10 @@ pub enum Command {
     Show,
 }
 
-/// The command that the words spell: none where the list is overfull, or where they aren't in the grammar of commands.
-pub fn read_words(words: &WordList) -> Option<Command>
-    ensures { option_map command result ≡ command_of words.now }
+/// The command of this name.
+fn command_named(word: &[u8]) -> Option<Command>
+    ensures { option_map command result ≡ command_named word.now }
 {
-    let word = words.word(0)?;
-    if words.word(1).is_some() {
-        return None;
-    }
     if word == b"replay".as_slice() {
         return Some(Command::Replay);
     }
@@ -101,6 +97,17 @@ pub fn read_words(words: &WordList) -> Option<Command>
         return Some(Command::Show);
     }
     None
+}
+
+/// The command that the words spell: none where the list is overfull, or where they aren't in the grammar of commands.
+pub fn read_words(words: &WordList) -> Option<Command>
+    ensures { option_map command result ≡ command_of words.now }
+{
+    let word = words.word(0)?;
+    if words.word(1).is_some() {
+        return None;
+    }
+    command_named(word)
 }
 
 #[cfg(test)]

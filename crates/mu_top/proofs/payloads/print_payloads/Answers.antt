@@ -1,6 +1,6 @@
 use Rattle.mu_model_script.specs.Limits.{most_octets}
 use Rattle.mu_top.specs.Payloads.{BarsPayload, DoesPayload}
-use Rattle.mu_top.proofs.Payloads.{payloads_alone}
+use Rattle.mu_top.proofs.PayloadLines.{payloads_alone}
 use Rattle.mu_top.proofs.Working.{completes}
 use Rattle.mu_top.proofs.payloads.print_payloads.Goals as goal
 

@@ -1,4 +1,4 @@
-use Rattle.mu_top.proofs.Payloads.{did_silent}
+use Rattle.mu_top.proofs.PayloadLines.{did_silent}
 use Rattle.mu_top.proofs.payloads.PayloadTextLineWork.do_line.Goals as goal
 
 pub returns-in-Ok-None-clause-did : goal.returns-in-Ok-None-clause-did
