@@ -1,5 +1,4 @@
 pub mod Told
-pub mod Requests
 pub mod Events
 pub mod WordLists
 pub mod Cuts

@@ -1,7 +1,6 @@
 -- The messages of a node as the code has them.
-use Rattle.std.specs.Prelude.{[], ◌∷◌, Option, Some, None}
-use Rattle.mu_model_wire.specs.Fields.{number, Message}
-use Rattle.mu_model_wire.specs.Names.{first, limit}
+use Rattle.std.specs.Prelude.{ℕ, List, [], ◌∷◌, Option, Some, None}
+use Rattle.std.specs.Borrow.{Bor}
 use Rattle.mu_model_node.specs.Message.{Request, InformationGet}
 use Rattle.mu_top.specs.declared.grammar.Request.{Request as HeldRequest}
 use Rattle.mu_top.specs.declared.grammar.Request.TheVariants.{InformationGet as HeldInformationGet}
@@ -13,6 +12,7 @@ abbrev pub asked : Option HeldRequest → Option Request
 asked (Some request) = Some (request_of request)
 asked None = None
 
--- the message on the wire
-abbrev pub message_of : HeldRequest → Message
-message_of (HeldInformationGet from most) = record { opcode = 0x8308; fields = number first from ∷ number limit most ∷ []; entries = [] }
+-- the Firmware IDs of an image or of none
+abbrev pub listed : Option (Bor (List ℕ)) → List (List ℕ)
+listed (Some id) = id.now ∷ []
+listed None = []

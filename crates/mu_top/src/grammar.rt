@@ -1,16 +1,12 @@
-// The messages of a node on the wire, as far as it takes and answers any.
-ghost use Rattle.std.specs.Prelude.{◌≡◌, ◌≤◌, ◌++◌, [], length, map, Some, None};
-ghost use Rattle.mu_model_wire.specs.Spelling.{entries_spelling};
-ghost use Rattle.mu_model_wire.specs.Reading.{Gives, row_at};
-ghost use Rattle.mu_model_wire.specs.Update.{entry_fields, information_get};
-ghost use Rattle.mu_model_node.specs.Message.{request_at, reply_octets, entry_shown, InformationStatus};
-ghost use Rattle.mu_top.specs.Grammar.{asked, message_of};
-ghost use Rattle.arrayvec.specs.ArrayVec.{array_vec_len};
+// The messages that a node takes and answers.
+ghost use Rattle.std.specs.Prelude.{◌≡◌, ◌≤◌, length, IfSome};
+ghost use Rattle.mu_model_node.specs.Message.{request_at, reply_octets, InformationStatus};
+ghost use Rattle.mu_top.specs.Grammar.{asked, listed};
 
-use mu_codec::{Cursor, Payload, Refusal, put_octets, put_u8};
-use mu_image::Fwid;
-
-const INFORMATION_GET: u16 = 0x8308;
+use arrayvec::ArrayVec;
+use mu_access::{Message, read, write};
+use mu_codec::Payload;
+use mu_updmsg::{Entry, UpdMsg};
 
 /// What a payload asks of a node.
 #[derive(Clone, Copy, Debug, PartialEq, Eq)]
@@ -20,44 +16,35 @@ pub(crate) enum Request {
 
 /// What a payload asks of a node. None where it isn't a message that a node takes.
 pub(crate) fn read_request(payload: &[u8]) -> Option<Request>
-    requires { length payload.now ≤ 380 }
     ensures { asked result ≡ request_at payload.now }
 {
-    let mut cursor = Cursor::new(payload);
-    let Ok(opcode) = cursor.opcode() else {
-        return None;
+    let message = match read(payload) {
+        Ok(message) => message,
+        Err(_) => return None,
     };
-    if opcode != INFORMATION_GET {
-        return None;
-    }
-    match information_get(cursor) {
-        Ok(request) => Some(request),
-        Err(_) => None,
+    let update = match message {
+        Message::Upd(update) => update,
+        Message::Blob(_) => return None,
+        Message::Dist(_) => return None,
+    };
+    match update {
+        UpdMsg::InformationGet { first, limit } => Some(Request::InformationGet { first, limit }),
+        _ => None,
     }
 }
 
-fn information_get(mut cursor: Cursor) -> Result<Request, Refusal>
-    ensures { Gives message_of result (row_at (Some information_get) 0x8308 cursor.entry) }
+/// Information Status: how many images there are, and the Firmware ID of the one from index `first` on, if any.
+pub(crate) fn information_status(count: u8, first: u8, id: Option<&[u8]>) -> Payload
+    requires { IfSome id (λ octets. (2 ≤ length octets.now) × (length octets.now ≤ 108)) }
+    ensures { result.items ≡ reply_octets (InformationStatus count first (listed id.entry)) }
 {
-    let first = cursor.u8()?;
-    let limit = cursor.u8()?;
-    cursor.end()?;
-    Ok(Request::InformationGet { first, limit })
-}
-
-/// Information Status: how many images there are, and the Firmware IDs of those from index `first` on.
-pub(crate) fn information_status(count: u8, first: u8, ids: &[Fwid]) -> Payload
-    requires { length ids.now ≤ 2 }
-    ensures { result.items ≡ reply_octets (InformationStatus count first (map (λ id. id.items) ids.now)) }
-{
-    let mut out = Payload::new();
-    put_octets(&mut out, &[0x83, 0x09]);
-    put_u8(&mut out, count);
-    put_u8(&mut out, first);
-    for id in ids {
-        put_u8(&mut out, id.len() as u8);
-        put_octets(&mut out, id.as_slice());
-        put_u8(&mut out, 0);
+    let mut entries = ArrayVec::new();
+    if let Some(id) = id {
+        entries.push(Entry { id, uri: &[] });
     }
-    out
+    write(&Message::Upd(UpdMsg::InformationStatus {
+        count,
+        first,
+        entries,
+    }))
 }

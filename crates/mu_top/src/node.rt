@@ -10,9 +10,8 @@ ghost use Rattle.mu_model_world.specs.Outcomes.{content_octets};
 ghost use Rattle.mu_script.specs.View.{content};
 
 use crate::grammar::{Request, information_status, read_request};
-use arrayvec::ArrayVec;
 use mu_codec::{Outbox, Packet, Payload};
-use mu_image::{Digesting, Fwid, Meta, fwid_of, make_image};
+use mu_image::{Digesting, Meta, fwid_of, make_image};
 use mu_model_image::laws;
 use mu_model_node::NodeConfig;
 use mu_script::Content;
@@ -108,11 +107,11 @@ impl Node {
     fn information(&self, first: u8, limit: u8) -> Payload
         ensures { map reply_octets (on_information_get self.now first limit).replies ≡ result.items ∷ [] }
     {
-        let mut ids: ArrayVec<Fwid, 1> = ArrayVec::new();
         if first == 0 && limit > 0 {
-            ids.push(fwid_of(OWN_COMPANY, &self.meta));
+            let id = fwid_of(OWN_COMPANY, &self.meta);
+            return information_status(1, first, Some(id.as_slice()));
         }
-        information_status(1, first, ids.as_slice())
+        information_status(1, first, None)
     }
 
     /// A packet that comes to it at a moment in milliseconds: what it sends goes into `out`. It answers whether it
