@@ -2,11 +2,13 @@ ghost use Rattle.std.specs.Prelude.{◌<◌, ◌≤◌, length};
 ghost use Rattle.mu_codec.specs.View.{packet_of};
 ghost use Rattle.mu_access.specs.Datagram.{CanTravel};
 
-use crate::{Message, datagram, in_range, read, undatagram, write};
+use crate::{Message, datagram, in_range, read, show, undatagram, write};
 use mu_blobmsg::BlobMsg;
 use mu_codec::{Packet, Payload, Refusal, Why, put_octets};
 use mu_distmsg::DistMsg;
+use mu_outside::BytesSink;
 use mu_updmsg::UpdMsg;
+use std::alloc::AllocError;
 
 fn refusal(at: u16, why: Why) -> Refusal {
     Refusal { at, why }
@@ -55,6 +57,27 @@ fn messages_of_all_models_are_read_and_written(rt: HostRuntime) {
         assert!(rt; in_range(&message));
         assert_eq!(rt; write(&message).as_slice(), octets);
     }
+}
+
+#[test]
+fn messages_of_all_models_are_shown(rt: HostRuntime) -> Result<(), AllocError> {
+    for (octets, line) in [
+        (
+            b"\x68\x00\xC2\x80".as_slice(),
+            b"partial-block-report missing=0,128\n".as_slice(),
+        ),
+        (b"\x83\x0F", b"update-apply\n"),
+        (b"\x83\x23\xAA\x0B", b"firmware-get fwid=aa0b\n"),
+    ] {
+        let mut sink = BytesSink::new(rt.alloc(), 40, &[])?;
+        let message = read(octets);
+        assert!(rt; message.is_ok());
+        if let Ok(message) = message {
+            assert_eq!(rt; show(&message, &mut sink), Ok(()));
+        }
+        assert_eq!(rt; sink.bytes(), line);
+    }
+    Ok(())
 }
 
 #[test]
