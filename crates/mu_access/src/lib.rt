@@ -6,6 +6,7 @@ pub mod laws;
 mod message;
 mod ranges;
 mod reading;
+mod showing;
 #[cfg(test)]
 mod tests;
 mod writing;
@@ -14,4 +15,5 @@ pub use datagrams::{datagram, undatagram};
 pub use message::Message;
 pub use ranges::in_range;
 pub use reading::read;
+pub use showing::show;
 pub use writing::write;

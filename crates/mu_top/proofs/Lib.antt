@@ -5,4 +5,4 @@ pub mod WordLists
 pub mod Cuts
 pub mod Places
 pub mod Working
-pub mod Payloads
+pub mod PayloadLines

@@ -12,6 +12,9 @@ use Rattle.mu_model_wire.specs.Table.{rows}
 use Rattle.mu_model_wire.specs.declared.Refusal.{Refusal}
 use Rattle.mu_model_wire.specs.declared.Why.{Why}
 use Rattle.mu_model_wire.specs.declared.Why.TheVariants.{Opcode, Short, Value, Long}
+use Rattle.mu_shown.specs.Lines.{shown_line}
+use Rattle.mu_top.specs.declared.payloads.PayloadText.{PayloadText}
+use Rattle.mu_top.specs.declared.payloads.PayloadText.TheVariants.{Canonical, Shown}
 use Rattle.mu_top.specs.Ends.{Doing, Barring, Ends, Completes, ByNumber}
 
 -- what a line comes to
@@ -66,23 +69,22 @@ Prints shown Silent text = text ≡ []
 Prints shown (Refused place word) text = ⊥
 Prints shown (Holds m) text = text ≡ shown m
 
--- the one state of a command that prints each payload for itself
-abbrev pub no_state : Unit {0}
-no_state = tt
+-- what is printed of a message
+abbrev pub printed : PayloadText → Message → List ℕ
+printed Canonical m = encode_lower (spelling rows m) ++ line_feed ∷ []
+printed Shown m = shown_line m
 
-abbrev pub DoesPayload : (Message → List ℕ) → Doing (Unit {0})
-DoesPayload shown w line text next = (next ≡ w) × Prints shown (payload_line line) text
+-- a command that prints its payloads stays what it is
+abbrev pub DoesPayload : Doing PayloadText
+DoesPayload w line text next = (next ≡ w) × Prints (printed w) (payload_line line) text
 
-abbrev pub BarsPayload : Barring (Unit {0})
+abbrev pub BarsPayload : Barring PayloadText
 BarsPayload w line place word = payload_line line ≡ Refused place word
 
--- `check` prints the canonical octets, in hexadecimal
-abbrev pub checked : Message → List ℕ
-checked m = encode_lower (spelling rows m) ++ line_feed ∷ []
-
-abbrev pub Checked : (source source' sink sink' : Option (List ℕ)) (number : ℕ) → Type 0
-Checked source source' sink sink' number = ByNumber (Ends (DoesPayload checked) BarsPayload no_state most_octets source source' sink sink') number
+-- what a command that prints payloads so promises
+abbrev pub PrintsPayloads : PayloadText → (source source' sink sink' : Option (List ℕ)) (number : ℕ) → Type 0
+PrintsPayloads text source source' sink sink' number = ByNumber (Ends DoesPayload BarsPayload text most_octets source source' sink sink') number
 
 -- where neither the source nor the sink fails
-abbrev pub CheckCompletes : (source source' sink sink' : Option (List ℕ)) (number : ℕ) → Type 0
-CheckCompletes source source' sink sink' number = ByNumber (Completes (DoesPayload checked) BarsPayload no_state most_octets source source' sink sink') number
+abbrev pub PayloadsComplete : PayloadText → (source source' sink sink' : Option (List ℕ)) (number : ℕ) → Type 0
+PayloadsComplete text source source' sink sink' number = ByNumber (Completes DoesPayload BarsPayload text most_octets source source' sink sink') number

@@ -1,7 +1,7 @@
 -- The words of a command line, and what they ask for (this profile).
 use Rattle.std.specs.Prelude.{ℕ, ◌&&◌, nat_le, List, [], ◌∷◌, ◌++◌, length, sum_by, take, drop, slice_get, codes, bytes_eq, Option, Some, None, if◌then◌else◌}
 use Rattle.mu_top.specs.declared.words.Command.{Command as HeldCommand}
-use Rattle.mu_top.specs.declared.words.Command.TheVariants.{Replay as HeldReplay, Check as HeldCheck}
+use Rattle.mu_top.specs.declared.words.Command.TheVariants.{Replay as HeldReplay, Check as HeldCheck, Show as HeldShow}
 
 -- words of these lengths, one behind the other
 abbrev pub words_of : List ℕ → List ℕ → List (List ℕ)
@@ -28,23 +28,30 @@ pub data Command : Type 0 where
   Replay : Command
   -- the canonical octets of the payloads that the source gives are printed
   Check : Command
+  -- the messages of the payloads that the source gives are shown
+  Show : Command
 
 abbrev pub command : HeldCommand → Command
 command HeldReplay = Replay
 command HeldCheck = Check
+command HeldShow = Show
+
+abbrev pub command_named : List ℕ → Option Command
+command_named word =
+    if bytes_eq word (codes "replay") then Some Replay
+    else if bytes_eq word (codes "check") then Some Check
+    else if bytes_eq word (codes "show") then Some Show
+    else None
 
 -- a command without keys
-abbrev pub without_keys : Command → List (List ℕ) → Option Command
-without_keys command [] = Some command
-without_keys command (key ∷ keys) = None
+abbrev pub without_keys : Option Command → List (List ℕ) → Option Command
+without_keys found [] = found
+without_keys found (key ∷ keys) = None
 
 -- the first word is the command, the others are its keys
 abbrev pub command_by : List (List ℕ) → Option Command
 command_by [] = None
-command_by (word ∷ keys) =
-    if bytes_eq word (codes "replay") then without_keys Replay keys
-    else if bytes_eq word (codes "check") then without_keys Check keys
-    else None
+command_by (word ∷ keys) = without_keys (command_named word) keys
 
 abbrev pub command_of : Option (List (List ℕ)) → Option Command
 command_of None = None

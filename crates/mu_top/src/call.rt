@@ -1,11 +1,12 @@
 // The one call of the program.
 ghost use Rattle.std.specs.Prelude.{◌≡◌, ◌≢◌, ◌↔◌, None, Some};
 ghost use Rattle.mu_model_flash.specs.Cause.{Rose};
-ghost use Rattle.mu_top.specs.Payloads.{Checked, CheckCompletes};
+ghost use Rattle.mu_top.specs.Payloads.{PrintsPayloads, PayloadsComplete};
 ghost use Rattle.mu_top.specs.Replay.{Replayed, ReplayCompletes};
-ghost use Rattle.mu_top.specs.Words.{command_of, Check, Replay};
+ghost use Rattle.mu_top.specs.declared.payloads.PayloadText.TheVariants.{Canonical, Shown};
+ghost use Rattle.mu_top.specs.Words.{command_of, Check, Replay, Show};
 
-use crate::check::check;
+use crate::payloads::{PayloadText, print_payloads};
 use crate::replay::replay;
 use crate::status::Status;
 use crate::words::{Command, WordList, read_words};
@@ -23,7 +24,7 @@ pub struct Ended<F> {
 /// Does what the words ask for, over the outside that is handed in, and answers the exit status.
 ///
 /// `replay` runs the script that the source gives, line by line, and writes its trace to the sink. `check` writes the canonical
-/// octets of the payloads that the source gives, one in hexadecimal on a line.
+/// octets of the payloads that the source gives, one in hexadecimal on a line; `show` writes their messages, one on a line.
 pub fn top<S: Source, K: Sink, F: Flash, L: Link, C: Clock>(
     alloc: Global,
     words: &WordList,
@@ -41,12 +42,17 @@ pub fn top<S: Source, K: Sink, F: Flash, L: Link, C: Clock>(
     ensures replay_complete { command_of words.now ≡ Some Replay → (Rose (S.faults source.old) (S.faults source.new) → ⊥) → (Rose (K.faults sink.old) (K.faults sink.new) → ⊥)
         → ReplayCompletes (S.left source.old) (S.left source.new) (K.written sink.old) (K.written sink.new) result.status }
 
-    // `check` writes the canonical octets of each payload, and takes no memory.
+    // `check` writes the canonical octets of each payload, `show` the line that shows its message; neither takes memory.
     ensures check { command_of words.now ≡ Some Check
-        → Checked (S.left source.old) (S.left source.new) (K.written sink.old) (K.written sink.new) result.status }
+        → PrintsPayloads Canonical (S.left source.old) (S.left source.new) (K.written sink.old) (K.written sink.new) result.status }
     ensures check_complete { command_of words.now ≡ Some Check → (Rose (S.faults source.old) (S.faults source.new) → ⊥) → (Rose (K.faults sink.old) (K.faults sink.new) → ⊥)
-        → CheckCompletes (S.left source.old) (S.left source.new) (K.written sink.old) (K.written sink.new) result.status }
+        → PayloadsComplete Canonical (S.left source.old) (S.left source.new) (K.written sink.old) (K.written sink.new) result.status }
     ensures check_memory { command_of words.now ≡ Some Check → result.status ≢ 9 }
+    ensures show { command_of words.now ≡ Some Show
+        → PrintsPayloads Shown (S.left source.old) (S.left source.new) (K.written sink.old) (K.written sink.new) result.status }
+    ensures show_complete { command_of words.now ≡ Some Show → (Rose (S.faults source.old) (S.faults source.new) → ⊥) → (Rose (K.faults sink.old) (K.faults sink.new) → ⊥)
+        → PayloadsComplete Shown (S.left source.old) (S.left source.new) (K.written sink.old) (K.written sink.new) result.status }
+    ensures show_memory { command_of words.now ≡ Some Show → result.status ≢ 9 }
 
     // 2 exactly where the words are no command, and then nothing was done.
     ensures usage { (result.status ≡ 2) ↔ (command_of words.now ≡ None) }
@@ -64,7 +70,8 @@ pub fn top<S: Source, K: Sink, F: Flash, L: Link, C: Clock>(
     let status = match read_words(words) {
         None => Status::Usage,
         Some(Command::Replay) => replay(alloc, source, sink),
-        Some(Command::Check) => check(source, sink),
+        Some(Command::Check) => print_payloads(PayloadText::Canonical, source, sink),
+        Some(Command::Show) => print_payloads(PayloadText::Shown, source, sink),
     };
     Ended {
         status: status.number(),

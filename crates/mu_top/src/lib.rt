@@ -2,13 +2,13 @@
 #![tactic(auto)]
 
 mod call;
-mod check;
 mod grammar;
 mod line;
 mod lines;
 mod member;
 mod node;
 mod payload;
+mod payloads;
 mod reader;
 mod replay;
 mod status;

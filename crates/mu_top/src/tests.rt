@@ -120,6 +120,7 @@ fn no_words_are_no_command(rt: HostRuntime) -> Result<(), Fail> {
         ["replay", "x"].as_slice(),
         ["check", "x=1"].as_slice(),
         ["checks"].as_slice(),
+        ["show", "check"].as_slice(),
         ["relay"].as_slice(),
         ["Replay"].as_slice(),
     ] {
@@ -403,6 +404,30 @@ fn payloads_are_checked(rt: HostRuntime) -> Result<(), Fail> {
         (b"8306\n6600\n8306\n", 7, b"8306\nrefused 2 1 short\n"),
     ] {
         expect_of(&rt, alloc, "check", input, status, written)?;
+    }
+    Ok(())
+}
+
+#[test]
+fn payloads_are_shown(rt: HostRuntime) -> Result<(), Fail> {
+    let alloc = rt.alloc();
+    for (input, status, written) in [
+        (b"".as_slice(), 0, b"".as_slice()),
+        (
+            b"# missing chunks\n67c00000C8000009\n\n8306\n",
+            0,
+            b"block-status status=0 format=3 block=0 chunk-size=200 missing=0,9\nblob-information-get\n",
+        ),
+        (b"830a01", 0, b"metadata-check index=1 metadata=\n"),
+        (b"6600", 7, b"refused 1 1 short\n"),
+        (b"8308000\n", 7, b"refused 1 7 hex\n"),
+        (
+            b"83080001\n8399\n",
+            7,
+            b"information-get first=0 limit=1\nrefused 2 0 opcode\n",
+        ),
+    ] {
+        expect_of(&rt, alloc, "show", input, status, written)?;
     }
     Ok(())
 }

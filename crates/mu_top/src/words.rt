@@ -1,6 +1,6 @@
 ghost use Rattle.std.specs.Prelude.{◌≡◌, [], Some};
 ghost use Rattle.std.specs.Option.{option_copied, option_map};
-ghost use Rattle.mu_top.specs.Words.{with_word, word_at, command, command_of};
+ghost use Rattle.mu_top.specs.Words.{with_word, word_at, command, command_named, command_of};
 
 use arrayvec::ArrayVec;
 use std::marker::Model;
@@ -79,6 +79,24 @@ pub enum Command {
     Replay,
     /// Writes the canonical octets of the payloads that the source gives.
     Check,
+    /// Shows the messages of the payloads that the source gives.
+    Show,
+}
+
+/// The command of this name.
+fn command_named(word: &[u8]) -> Option<Command>
+    ensures { option_map command result ≡ command_named word.now }
+{
+    if word == b"replay".as_slice() {
+        return Some(Command::Replay);
+    }
+    if word == b"check".as_slice() {
+        return Some(Command::Check);
+    }
+    if word == b"show".as_slice() {
+        return Some(Command::Show);
+    }
+    None
 }
 
 /// The command that the words spell: none where the list is overfull, or where they aren't in the grammar of commands.
@@ -89,13 +107,7 @@ pub fn read_words(words: &WordList) -> Option<Command>
     if words.word(1).is_some() {
         return None;
     }
-    if word == b"replay".as_slice() {
-        return Some(Command::Replay);
-    }
-    if word == b"check".as_slice() {
-        return Some(Command::Check);
-    }
-    None
+    command_named(word)
 }
 
 #[cfg(test)]

@@ -1,5 +1,5 @@
 use Rattle.std.proofs.Common.{sym, ℕ, arith, length-take, ◌∙◌}
-use Rattle.mu_top.proofs.Payloads.{decoded}
+use Rattle.mu_top.proofs.PayloadLines.{decoded}
 use Rattle.mu_top.proofs.payload.octets_of.Goals as goal
 
 pub prove-unreachable-requires : goal.prove-unreachable-requires

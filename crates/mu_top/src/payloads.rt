@@ -1,43 +1,42 @@
-// Checking payloads.
+// Printing payloads.
 ghost use Rattle.std.specs.Prelude.{◌≡◌, ◌≢◌, ◌≤◌, ◌++◌, ◌∷◌, [], length, OnOk, OnErr};
 ghost use Rattle.hex.specs.Hex.{encode_lower};
 ghost use Rattle.mu_model_script.specs.Pieces.{line_feed};
 ghost use Rattle.mu_top.specs.Reading.{Wrote, WroteSome};
+ghost use Rattle.mu_access.specs.View.{InRange, view};
 ghost use Rattle.mu_model_flash.specs.Cause.{HasCause, Rose};
 ghost use Rattle.mu_model_script.specs.Limits.{most_octets};
 ghost use Rattle.mu_top.specs.Ends.{Completes, Ends};
-ghost use Rattle.mu_top.specs.Payloads.{BarsPayload, DoesPayload, checked, no_state};
+ghost use Rattle.mu_top.specs.Payloads.{BarsPayload, DoesPayload, printed};
 
 use crate::payload::read_payload;
 use crate::status::Status;
 use crate::work::{LineStop, LineWork, run};
 use crate::writing::write_pieces;
-use mu_access::write;
+use mu_access::{Message, show, write};
 use mu_outside::{Failed, Sink, Source};
-use std::marker::Model;
 
 /// As many lines as octets: no limit beside that on octets.
 const MOST_LINES: u32 = 16_777_216;
 
-/// Writes the canonical octets of each payload.
-#[derive(Drop)]
-struct CheckWork;
-
-impl Model for CheckWork {
-    ghost Value = { Unit {0} };
-
-    ghost view = { λ _. tt };
+/// What is printed of each payload.
+#[derive(Clone, Copy, Debug, PartialEq, Eq)]
+pub(crate) enum PayloadText {
+    /// Its canonical octets, in hexadecimal.
+    Canonical,
+    /// The name and the fields of its message.
+    Shown,
 }
 
-impl LineWork for CheckWork {
+impl LineWork for PayloadText {
     ghost use Rattle.std.specs.Prelude.{◌≡◌, ◌≤◌, ◌<◌, length, OnOk, IfErr};
     ghost use Rattle.std.proofs.lemmas.Bool.{lt-ltb};
     ghost use Rattle.std.proofs.Common.{refl};
     ghost use Rattle.mu_model_flash.specs.Cause.{Rose};
     ghost use Rattle.mu_top.specs.LineDone.{DidLine, StopsLine};
-    ghost use Rattle.mu_top.specs.Payloads.{BarsPayload, DoesPayload, checked};
+    ghost use Rattle.mu_top.specs.Payloads.{BarsPayload, DoesPayload};
 
-    ghost does = { DoesPayload checked };
+    ghost does = { DoesPayload };
 
     ghost bars = { BarsPayload };
 
@@ -52,10 +51,23 @@ impl LineWork for CheckWork {
             Ok(None) => return Ok(()),
             Err(stop) => return Err(stop),
         };
-        match write_octets(sink, write(&message).as_slice()) {
+        match print(*self, &message, sink) {
             Ok(()) => Ok(()),
             Err(_) => Err(LineStop::Sink),
         }
+    }
+}
+
+/// Prints a message.
+fn print<K: Sink>(text: PayloadText, message: &Message, sink: &mut K) -> Result<(), Failed>
+    requires { InRange message.now }
+    ensures ok { OnOk result (Wrote (K.written sink.old) (K.written sink.new) (printed text (view message.now))) }
+    ensures err { OnErr result (WroteSome (K.written sink.old) (K.written sink.new) (printed text (view message.now))) }
+    ensures cause { HasCause (K.faults sink.old) (K.faults sink.new) result }
+{
+    match text {
+        PayloadText::Canonical => write_octets(sink, write(message).as_slice()),
+        PayloadText::Shown => show(message, sink),
     }
 }
 
@@ -74,15 +86,20 @@ fn write_octets<K: Sink>(sink: &mut K, octets: &[u8]) -> Result<(), Failed>
     write_pieces(sink, &[digits, b"\n"])
 }
 
-/// Checks the payloads that the source gives, line by line.
-pub(crate) fn check<S: Source, K: Sink>(source: &mut S, sink: &mut K) -> Status
-    ensures ends { Ends (DoesPayload checked) BarsPayload no_state most_octets (S.left source.old) (S.left source.new) (K.written sink.old) (K.written sink.new) result }
+/// Prints the payloads that the source gives, line by line.
+pub(crate) fn print_payloads<S: Source, K: Sink>(
+    text: PayloadText,
+    source: &mut S,
+    sink: &mut K,
+) -> Status
+    ensures ends { Ends DoesPayload BarsPayload text most_octets (S.left source.old) (S.left source.new) (K.written sink.old) (K.written sink.new) result }
     ensures complete { (Rose (S.faults source.old) (S.faults source.new) → ⊥) → (Rose (K.faults sink.old) (K.faults sink.new) → ⊥)
-        → Completes (DoesPayload checked) BarsPayload no_state most_octets (S.left source.old) (S.left source.new) (K.written sink.old) (K.written sink.new) result }
+        → Completes DoesPayload BarsPayload text most_octets (S.left source.old) (S.left source.new) (K.written sink.old) (K.written sink.new) result }
     ensures source { result ≡ Status.SourceFault → Rose (S.faults source.old) (S.faults source.new) }
     ensures sink { result ≡ Status.SinkFault → Rose (K.faults sink.old) (K.faults sink.new) }
     ensures memory { result ≢ Status.NoMemory }
     ensures command { result ≢ Status.Usage }
 {
-    run(&mut CheckWork, MOST_LINES, source, sink)
+    let mut text = text;
+    run(&mut text, MOST_LINES, source, sink)
 }

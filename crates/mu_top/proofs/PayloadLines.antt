@@ -9,30 +9,31 @@ use Rattle.std.specs.Result.{MatchResult}
 use Rattle.hex.specs.declared.error.FromHexError.{FromHexError}
 use Rattle.hex.specs.Hex.{decode_sized, is_hex_digit}
 use Rattle.hex.proofs.HexLemmas.{IsOk-decode_sized}
+use Rattle.mu_top.specs.declared.payloads.PayloadText.{PayloadText}
 use Rattle.mu_top.specs.LineDone.{DidLine}
 use Rattle.mu_top.proofs.Told.{told_self}
 use Rattle.mu_model_wire.specs.Fields.{Message}
 use Rattle.mu_model_script.specs.Runs as runs
-use Rattle.mu_top.specs.Payloads.{DoesPayload, BarsPayload, Prints, PayloadLine, Silent, Refused, Holds, payload_line, no_state, first_bad_digit, bad_hex}
+use Rattle.mu_top.specs.Payloads.{DoesPayload, BarsPayload, Prints, PayloadLine, Silent, Refused, Holds, payload_line, printed, first_bad_digit, bad_hex}
 
 refused_prints_nothing : (shown : Message → List ℕ) (line : PayloadLine) (place : ℕ) (word text : List ℕ) → line ≡ Refused place word → Prints shown line text → ⊥
 refused_prints_nothing shown line place word text is prints = subst (λ l. Prints shown l text) is prints
 
 -- a run through these lines has done the one in the middle
-through : (shown : Message → List ℕ) (w : Unit {0}) (front : List (List ℕ)) (line : List ℕ) (others : List (List ℕ)) (text : List ℕ) (last : Unit {0}) (place : ℕ) (word : List ℕ)
-    → payload_line line ≡ Refused place word → runs.Run (DoesPayload shown) w (front ++ line ∷ others) text last → ⊥
-through shown w [] line others text last place word is run = refused_prints_nothing shown (payload_line line) place word run.1 is run.3.1
-through shown w (first ∷ front) line others text last place word is run = through shown run.0 front line others run.2 last place word is run.4
+through : (w : PayloadText) (front : List (List ℕ)) (line : List ℕ) (others : List (List ℕ)) (text : List ℕ) (last : PayloadText) (place : ℕ) (word : List ℕ)
+    → payload_line line ≡ Refused place word → runs.Run DoesPayload w (front ++ line ∷ others) text last → ⊥
+through w [] line others text last place word is run = refused_prints_nothing (printed w) (payload_line line) place word run.1 is run.3.1
+through w (first ∷ front) line others text last place word is run = through run.0 front line others run.2 last place word is run.4
 
 -- a list of lines with a refused one has no trace
-pub payloads_alone : (shown : Message → List ℕ) (lines : List (List ℕ)) (text whole : List ℕ) (number place : ℕ) (word : List ℕ)
-    → runs.Refuses (DoesPayload shown) BarsPayload no_state lines text number place word → runs.Prints (DoesPayload shown) no_state lines whole → ⊥
-payloads_alone shown lines text whole number place word refuses prints =
-    through shown no_state refuses.before refuses.line refuses.others whole prints.end place word refuses.refused (subst (λ ls. runs.Run (DoesPayload shown) no_state ls whole prints.end) refuses.cut prints.run)
+pub payloads_alone : (start : PayloadText) (lines : List (List ℕ)) (text whole : List ℕ) (number place : ℕ) (word : List ℕ)
+    → runs.Refuses DoesPayload BarsPayload start lines text number place word → runs.Prints DoesPayload start lines whole → ⊥
+payloads_alone start lines text whole number place word refuses prints =
+    through start refuses.before refuses.line refuses.others whole prints.end place word refuses.refused (subst (λ ls. runs.Run DoesPayload start ls whole prints.end) refuses.cut prints.run)
 
 -- nothing is printed of a line that says nothing
-pub did_silent : (shown : Message → List ℕ) (w : Unit {0}) (line : List ℕ) (o : Option (List ℕ)) → payload_line line ≡ Silent → DidLine (DoesPayload shown) w line w o o
-did_silent shown w line o is = record { text = []; does = (refl, rw is refl); wrote = told_self o _ (λ v. sym (append-nil v)) }
+pub did_silent : (w : PayloadText) (line : List ℕ) (o : Option (List ℕ)) → payload_line line ≡ Silent → DidLine DoesPayload w line w o o
+did_silent w line o is = record { text = []; does = (refl, rw is refl); wrote = told_self o _ (λ v. sym (append-nil v)) }
 
 -- ---- hexadecimal
 
