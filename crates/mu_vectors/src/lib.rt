@@ -7,6 +7,8 @@ pub mod blob;
 pub mod distribution;
 pub mod opcodes;
 #[cfg(test)]
+mod shown;
+#[cfg(test)]
 mod tests;
 pub mod update;
 
