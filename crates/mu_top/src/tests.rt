@@ -1,3 +1,5 @@
+ghost use Rattle.std.specs.Prelude.{◌<◌, ◌^◌};
+
 use crate::{WordList, top};
 use mu_outside::{BytesSink, BytesSource, Clock, Failed, Incoming, Link, RamFlash};
 use std::alloc::Global;
@@ -112,24 +114,25 @@ fn an_empty_script_writes_nothing(rt: HostRuntime) -> Result<(), Fail> {
     expect(&rt, rt.alloc(), b"\n\n# a comment\n#", 0, b"")
 }
 
+/// These words are no command, and nothing is done.
+fn expect_usage(rt: &impl Abort, alloc: Global, words: &[&str]) -> Result<(), Fail> {
+    let mut source = BytesSource::new(alloc, ONE_NODE, &[])?;
+    let mut sink = BytesSink::new(alloc, 65536, &[])?;
+    assert_eq!(rt; status_of(alloc, words, &mut source, &mut sink)?, 2);
+    assert_eq!(rt; sink.bytes(), b"".as_slice());
+    Ok(())
+}
+
 #[test]
 fn no_words_are_no_command(rt: HostRuntime) -> Result<(), Fail> {
     let alloc = rt.alloc();
-    for words in [
-        [].as_slice(),
-        ["replay", "x"].as_slice(),
-        ["check", "x=1"].as_slice(),
-        ["checks"].as_slice(),
-        ["show", "check"].as_slice(),
-        ["relay"].as_slice(),
-        ["Replay"].as_slice(),
-    ] {
-        let mut source = BytesSource::new(alloc, ONE_NODE, &[])?;
-        let mut sink = BytesSink::new(alloc, 65536, &[])?;
-        assert_eq!(rt; status_of(alloc, words, &mut source, &mut sink)?, 2);
-        assert_eq!(rt; sink.bytes(), b"".as_slice());
-    }
-    Ok(())
+    expect_usage(&rt, alloc, &[])?;
+    expect_usage(&rt, alloc, &["replay", "x"])?;
+    expect_usage(&rt, alloc, &["check", "x=1"])?;
+    expect_usage(&rt, alloc, &["show", "check"])?;
+    expect_usage(&rt, alloc, &["checks"])?;
+    expect_usage(&rt, alloc, &["relay"])?;
+    expect_usage(&rt, alloc, &["Replay"])
 }
 
 #[test]
@@ -352,22 +355,6 @@ fn a_script_may_have_100000_lines(rt: HostRuntime) -> Result<(), Fail> {
     expect(&rt, alloc, &script, 14, b"")?;
     script[99_999] = b'x';
     expect(&rt, alloc, &script, 7, b"refused 100000 0 token\n")
-}
-
-#[test]
-fn an_input_may_have_16777216_octets(rt: HostRuntime) -> Result<(), Fail> {
-    let alloc = rt.alloc();
-    let mut script = vec![in alloc; b'#'; 16_777_216]?;
-    for line in 0..4096 {
-        script[4096 * line + 4095] = b'\n';
-    }
-    expect(&rt, alloc, &script, 0, b"")?;
-    script.push(b'\n')?;
-    expect(&rt, alloc, &script, 14, b"")?;
-    // A line that is too long shows it before the limit.
-    script[16_777_215] = b'#';
-    script[16_773_119] = b'#';
-    expect(&rt, alloc, &script, 7, b"refused 4095 4096 long\n")
 }
 
 #[test]
