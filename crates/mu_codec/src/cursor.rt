@@ -80,7 +80,8 @@ impl<'a> Cursor<'a> {
 
     /// How many octets were read: the place of the first that is left.
     pub fn place(&self) -> u16
-        ensures { result ≡ self.now.at }
+        ensures place { result ≡ self.now.at }
+        ensures most { result + length self.now.octets ≤ 380 }
     {
         self.at
     }

@@ -1,13 +1,13 @@
 -- The message in memory that a plain message is the view of.
-use Rattle.std.proofs.Common.{◌≡◌, ℕ, eqb, cond, List, [], ◌∷◌, ◌++◌, Option, Some, None, refl, sym, ap, ◌∙◌, map}
+use Rattle.std.proofs.Common.{◌≡◌, ℕ, eqb, cond, List, [], ◌∷◌, ◌++◌, Option, refl, sym, ap, ◌∙◌, map}
 use Rattle.std.specs.Prelude.{unwrap_or}
 use Rattle.std.specs.Borrow.{Bor}
-use Rattle.mu_model_wire.specs.Fields.{Shown, number, octets, perhaps, Message}
+use Rattle.mu_model_wire.specs.Fields.{Shown, number, perhaps, Message}
 use Rattle.mu_model_wire.specs.Names.{id, uri, first, limit, count, index, metadata, status, additional, phase, ttl, base}
 use Rattle.mu_model_wire.specs.Reading.{value_of}
 use Rattle.mu_model_wire.proofs.Found.{number_of, octets_of, number_of-append, number_same, number_other, or_else, or_none, map-map}
 use Rattle.mu_updmsg.specs.View.{view, entry_shown}
-use Rattle.mu_updmsg.specs.Laws.{content, entry_content}
+use Rattle.mu_updmsg.specs.Laws.{content}
 use Rattle.mu_updmsg.specs.declared.message.Entry.{Entry}
 use Rattle.mu_updmsg.specs.declared.message.UpdMsg.{UpdMsg}
 use Rattle.mu_updmsg.specs.declared.message.UpdMsg.TheVariants.{InformationGet, InformationStatus, MetadataCheck, MetadataStatus, UpdateGet, UpdateStart, UpdateCancel, UpdateApply, UpdateStatus}

@@ -1,4 +1,4 @@
-use Rattle.std.proofs.Common.{◌≡◌, List, Result, Ok, Err, refl}
+use Rattle.std.proofs.Common.{List, Result, Ok, Err, refl}
 use Rattle.std.specs.Prelude.{ℕ, IfOk}
 use Rattle.mu_model_wire.specs.declared.Refusal.{Refusal}
 use Rattle.mu_model_wire.specs.Reading.{Gives, message_at}

@@ -4,5 +4,4 @@ ghost use Rattle.mu_updmsg.specs.Laws.{ViewTellsAll};
 /// Messages that are the same as plain messages are the same, but for the places of their lent octets.
 pub fn view_tells_all()
     ensures { ViewTellsAll }
-{
-}
+{}

@@ -36,13 +36,36 @@ fn each_row_is_read_and_written(rt: HostRuntime) {
         index: None,
     };
     for (octets, message) in [
-        (b"\x83\x08\x01\xFF".as_slice(), UpdMsg::InformationGet { first: 1, limit: 255 }),
+        (
+            b"\x83\x08\x01\xFF".as_slice(),
+            UpdMsg::InformationGet {
+                first: 1,
+                limit: 255,
+            },
+        ),
         (
             b"\x83\x09\x02\x00\x04\xFF\xFFv1\x00\x02ab\x03u:x",
-            UpdMsg::InformationStatus { count: 2, first: 0, entries },
+            UpdMsg::InformationStatus {
+                count: 2,
+                first: 0,
+                entries,
+            },
         ),
-        (b"\x83\x0A\x00", UpdMsg::MetadataCheck { index: 0, metadata: b"" }),
-        (b"\x83\x0B\xFA\x05", UpdMsg::MetadataStatus { status: 2, additional: 31, index: 5 }),
+        (
+            b"\x83\x0A\x00",
+            UpdMsg::MetadataCheck {
+                index: 0,
+                metadata: b"",
+            },
+        ),
+        (
+            b"\x83\x0B\xFA\x05",
+            UpdMsg::MetadataStatus {
+                status: 2,
+                additional: 31,
+                index: 5,
+            },
+        ),
         (b"\x83\x0C", UpdMsg::UpdateGet),
         (
             b"\x83\x0D\x07\x02\x01\x01\x02\x03\x04\x05\x06\x07\x08\x00\xAA",
@@ -56,7 +79,10 @@ fn each_row_is_read_and_written(rt: HostRuntime) {
         ),
         (b"\x83\x0E", UpdMsg::UpdateCancel),
         (b"\x83\x0F", UpdMsg::UpdateApply),
-        (b"\x83\x10\xC2\x07\x1F\x02\x01\x01\x02\x03\x04\x05\x06\x07\x08\x09", status),
+        (
+            b"\x83\x10\xC2\x07\x1F\x02\x01\x01\x02\x03\x04\x05\x06\x07\x08\x09",
+            status,
+        ),
         (b"\x83\x10\x07", idle),
     ] {
         assert_eq!(rt; read(octets), Ok(message), "at {octets:?}");
@@ -109,16 +135,35 @@ fn the_first_wrong_field_is_refused(rt: HostRuntime) {
 fn what_has_no_octets_is_out_of_range(rt: HostRuntime) {
     let mut entries = ArrayVec::new();
     entries.push(Entry { id: b"a", uri: b"" });
-    assert!(rt; !in_range(&UpdMsg::InformationStatus { count: 1, first: 0, entries }));
-    assert!(rt; !in_range(&UpdMsg::MetadataCheck { index: 0, metadata: &[0; 256] }));
-    assert!(rt; !in_range(&UpdMsg::MetadataStatus { status: 8, additional: 0, index: 0 }));
-    assert!(rt; !in_range(&UpdMsg::UpdateStatus {
-        status: 0,
-        phase: 1,
-        ttl: None,
-        additional: None,
-        base: None,
-        id: None,
-        index: None,
-    }));
+    assert!(rt;
+        !in_range(&UpdMsg::InformationStatus {
+            count: 1,
+            first: 0,
+            entries
+        })
+    );
+    assert!(rt;
+        !in_range(&UpdMsg::MetadataCheck {
+            index: 0,
+            metadata: &[0; 256]
+        })
+    );
+    assert!(rt;
+        !in_range(&UpdMsg::MetadataStatus {
+            status: 8,
+            additional: 0,
+            index: 0
+        })
+    );
+    assert!(rt;
+        !in_range(&UpdMsg::UpdateStatus {
+            status: 0,
+            phase: 1,
+            ttl: None,
+            additional: None,
+            base: None,
+            id: None,
+            index: None,
+        })
+    );
 }

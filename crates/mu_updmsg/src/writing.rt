@@ -153,9 +153,9 @@ fn update_status(
 {
     let mut out = Payload::new();
     put_octets(&mut out, &[0x83, 0x10, status + phase * 32]);
-    if let (Some(ttl), Some(additional), Some(base), Some(id), Some(index)) =
-        (ttl, additional, base, id, index)
-    {
+    if let (Some(ttl), Some(additional), Some(base), Some(id), Some(index)) = (
+        ttl, additional, base, id, index,
+    ) {
         put_u8(&mut out, ttl);
         put_u8(&mut out, additional);
         put_u16(&mut out, base);

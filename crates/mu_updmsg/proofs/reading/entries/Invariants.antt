@@ -1,4 +1,4 @@
-use Rattle.std.proofs.Common.{◌≡◌, ◌≤◌, ◌+◌, ◌*◌, length, map}
+use Rattle.std.proofs.Common.{◌≤◌, ◌+◌, ◌*◌, length, map}
 use Rattle.mu_model_wire.specs.Reading.{entries_at}
 use Rattle.mu_model_wire.proofs.Loops.{StillReads}
 use Rattle.mu_model_wire.specs.Update.{entry_fields}

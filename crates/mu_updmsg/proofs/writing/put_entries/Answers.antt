@@ -1,4 +1,4 @@
-use Rattle.std.proofs.Common.{arith, get_or, []}
+use Rattle.std.proofs.Common.{[]}
 use Rattle.mu_model_wire.proofs.Loops.{room, fits_at}
 use Rattle.mu_model_wire.specs.Update.{entry_fields}
 use Rattle.mu_updmsg.specs.View.{entry_shown}

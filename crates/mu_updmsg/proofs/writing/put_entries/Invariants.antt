@@ -1,5 +1,5 @@
-use Rattle.std.proofs.Common.{◌≡◌, ◌≤◌, ◌+◌, ◌++◌, length, map, drop, [], ◌∷◌}
-use Rattle.mu_model_wire.specs.Spelling.{entries_spelling, EntriesFit}
+use Rattle.std.proofs.Common.{◌≡◌, ◌++◌, map, drop}
+use Rattle.mu_model_wire.specs.Spelling.{entries_spelling}
 use Rattle.mu_model_wire.specs.Update.{entry_fields}
 use Rattle.mu_updmsg.specs.View.{entry_shown}
 use Rattle.mu_updmsg.proofs.writing.put_entries.Given as goal
