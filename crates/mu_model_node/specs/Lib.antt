@@ -2,3 +2,15 @@ pub mod Message
 pub mod Node
 pub mod Table
 pub mod Step
+pub mod Slots
+pub mod BlobMessages
+pub mod BlobServer
+pub mod BlobTable
+pub mod UpdateMessages
+pub mod NodeMessages
+pub mod FlashWork
+pub mod NodeState
+pub mod NodeOutcome
+pub mod UpdateTable
+pub mod TimeTable
+pub mod Events
