@@ -14,3 +14,6 @@ pub mod NodeOutcome
 pub mod UpdateTable
 pub mod TimeTable
 pub mod Events
+pub mod Log
+pub mod Sound
+pub mod Safe
