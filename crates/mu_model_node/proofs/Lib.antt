@@ -3,4 +3,7 @@ pub mod BlobRows
 pub mod Moves
 pub mod Kept
 pub mod Runs
+pub mod Places
+pub mod BlobSound
+pub mod NodeSound
 pub mod Worked

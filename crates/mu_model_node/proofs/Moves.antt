@@ -189,7 +189,7 @@ serves s o h = change_moves s o o.change refl s.durable.job refl h
 
 -- ---- time
 
-fits_true : (octets : List ℕ) (meta : Meta) → fits octets meta ≡ true → IsFit octets meta
+pub fits_true : (octets : List ℕ) (meta : Meta) → fits octets meta ≡ true → IsFit octets meta
 fits_true octets meta e = record {
   size = grind (arith, nat_tests);
   digest = grind (arith, nat_tests, bytes_eq-Decides (sha256 octets) meta.digest);

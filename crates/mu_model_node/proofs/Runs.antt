@@ -6,7 +6,7 @@ use Rattle.mu_model_node.specs.FlashWork.{FlashWork, Untouched, Recorded, Begun,
 use Rattle.mu_model_node.specs.NodeState.{Stored, Filling, Verified, Refused, Applied, Job, NodeDurable, NodeState, restarted}
 use Rattle.mu_model_node.specs.Events.{NodeEvent, at_moment, node_step, node_work}
 use Rattle.mu_model_node.specs.Log.{LogEntry, Took, Asked, Reached, logged}
-use Rattle.mu_model_node.specs.Sound.{IsNodeDurable, IsJob, StoredIs}
+use Rattle.mu_model_node.specs.Sound.{IsNodeDurable, IsJob, HasJob, StoredIs}
 use Rattle.mu_model_node.specs.Safe.{Happening, Done, CutPower, Torn, left_after, happened, state_after, log_after, InOrder, none, here, ImagesAreSafe, found_stored, found, OneNodeIsSafe}
 use Rattle.mu_model_node.specs.declared.NodeConfig.{NodeConfig}
 use Rattle.mu_model_node.proofs.Moves.{Move, Stays, cause_of, steps}
@@ -82,7 +82,7 @@ found_known j Refused h = tt
 found_known j Verified h = (h.fit, here (here none))
 found_known j Applied h = (h.fit, here (here (here none)))
 
-job_known : (d : NodeDurable) (job : Option Job) → MatchOption job (Unit {0}) (IsJob d) → IsKnown (found job) job
+job_known : (d : NodeDurable) (job : Option Job) → HasJob d.capacity d.images job → IsKnown (found job) job
 job_known d None h = tt
 job_known d (Some j) h = record { took = here none; stored = found_known j j.stored h.stored }
 

@@ -1,6 +1,6 @@
 -- A finite map from the numbers below a bound to octets: a list with a place for each number.
 use Rattle.std.specs.Prelude.{ℕ, Bool, List, [], ◌∷◌, ◌++◌, map, Option, Some, None, set, replicate, slice_index_or, is_some, is_none}
-use Rattle.std.specs.List.{list_all}
+use Rattle.std.specs.List.{count_by, list_all}
 
 abbrev pub Slots : Type 0
 Slots = List (Option (List ℕ))
@@ -31,3 +31,7 @@ abbrev pub joined : Slots → List ℕ
 joined [] = []
 joined (None ∷ slots) = joined slots
 joined (Some octets ∷ slots) = octets ++ joined slots
+
+-- how many places have something
+abbrev pub held_count : Slots → ℕ
+held_count slots = count_by is_some slots
