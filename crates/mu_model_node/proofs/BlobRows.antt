@@ -1,11 +1,11 @@
 -- What each BLOB row does to what is kept: it changes it only where blocks are missing.
-use Rattle.std.proofs.Common.{◌≡◌, ℕ, Bool, true, false, List, [], refl, cond, Option, Some, None}
+use Rattle.std.proofs.Common.{◌≡◌, ℕ, Bool, true, false, List, refl, cond, Option, Some, None}
 use Rattle.std.specs.Prelude.{⊤, ◌==◌, ◌||◌, not, nat_lt}
 use Rattle.mu_model_wire.specs.declared.reports.Report.{Report}
-use Rattle.mu_model_node.specs.Slots.{Slots, put}
+use Rattle.mu_model_node.specs.Slots.{put}
 use Rattle.mu_model_node.specs.BlobMessages.{Parameters, BlobRequest, BlobInformationGet, TransferGet, TransferStart, TransferCancel, BlockStart, BlockGet, ChunkTransfer, least_log, most_log}
-use Rattle.mu_model_node.specs.BlobServer.{Transfer, Link, Cut, Ready, Running, CurrentBlock, LastBlock, Session, heard_at, linked, Serving, NoJob, Lacking, Whole, Server, BlobPhase, Inactive, WaitingForStart, NextBlock, NextChunk, Complete, Suspended, running_phase, transfer_phase, serving_phase, server_phase, Change, Same, Begins, Drops, Puts}
-use Rattle.mu_model_node.specs.BlobTable.{Served, silently, tell, refuse, tell_block, same_parameters, are_parameters, is_ready, starts, resumes, repeats, for_id, on_transfer_start, drop_transfer, on_transfer_cancel, on_block_start, tell_last, on_block_get, completes, receives, on_chunk_transfer, is_due, is_pull, pulls, waits, times_out, on_server_time, on_blob}
+use Rattle.mu_model_node.specs.BlobServer.{Transfer, Link, Cut, Ready, Running, CurrentBlock, LastBlock, Session, heard_at, linked, Serving, NoJob, Lacking, Whole, Server, BlobPhase, Inactive, WaitingForStart, NextBlock, NextChunk, Complete, Suspended, running_phase, transfer_phase, serving_phase, server_phase, Change, Same, Begins}
+use Rattle.mu_model_node.specs.BlobTable.{Served, silently, tell, refuse, tell_block, same_parameters, are_parameters, is_ready, starts, resumes, repeats, for_id, on_transfer_start, drop_transfer, on_transfer_cancel, on_block_start, tell_last, on_block_get, completes, on_chunk_transfer, is_due, is_pull, pulls, waits, times_out, on_server_time, on_blob}
 
 abbrev pub IsLacking : Serving → Type 0
 IsLacking (Lacking t) = ⊤

@@ -1,16 +1,16 @@
 -- What each BLOB row does to a sound server: the block that is the current one stays sound, and what is kept changes as it may.
-use Rattle.std.proofs.Common.{◌≡◌, ◌<◌, ◌≤◌, ℕ, ◌+◌, ◌-◌, ◌*◌, Bool, true, false, List, [], ◌∷◌, length, refl, sym, ap, subst, ◌∙◌, cond, arith, min, Option, Some, None, ◌⊎◌, inl, inr}
+use Rattle.std.proofs.Common.{◌≡◌, ◌<◌, ◌≤◌, ℕ, ◌+◌, ◌-◌, ◌*◌, Bool, true, false, List, length, refl, sym, subst, ◌∙◌, cond, arith, min, Option, Some, None}
 use Rattle.std.specs.Prelude.{⊤, ◌==◌, ◌||◌, ◌&&◌, not, nat_lt, nat_le, is_some}
 use Rattle.std.proofs.lemmas.List.{length-replicate}
 use Rattle.std.proofs.lemmas.Bool.Decides.{nat_tests}
 use Rattle.mu_model_wire.specs.declared.reports.Report.{Report}
 use Rattle.mu_model_image.specs.Pieces.{block_length, chunk_count, chunk_length}
-use Rattle.mu_model_node.specs.Slots.{Slots, empty, at, put, is_full, joined}
+use Rattle.mu_model_node.specs.Slots.{Slots, empty, at, put, is_full}
 use Rattle.mu_model_node.specs.BlobMessages.{Parameters, BlobRequest, BlobInformationGet, TransferGet, TransferStart, TransferCancel, BlockStart, BlockGet, ChunkTransfer, least_log, most_log, least_chunk, most_chunk}
 use Rattle.mu_model_node.specs.BlobServer.{Transfer, Link, Cut, Ready, Running, CurrentBlock, LastBlock, Session, unlinked, heard_at, linked, Serving, NoJob, Lacking, Whole, Server, BlobPhase, Inactive, WaitingForStart, NextBlock, NextChunk, Complete, Suspended, running_phase, transfer_phase, serving_phase, server_phase, Change, Same, Begins, Drops, Puts}
 use Rattle.mu_model_node.specs.BlobTable.{Served, silently, tell, refuse, tell_block, same_parameters, are_parameters, is_ready, starts, resumes, repeats, for_id, on_transfer_start, drop_transfer, on_transfer_cancel, held_again, opens, on_block_start, tell_last, on_block_get, completes, receives, on_chunk_transfer, is_due, is_pull, pulls, waits, times_out, on_server_time, on_blob}
 use Rattle.mu_model_node.specs.Sound.{HaveLengths, IsCurrent, AreInRange, BlobRequestFits}
-use Rattle.mu_model_node.proofs.Places.{at_empty, empty_lengths, put_lengths, length_put, whole_length}
+use Rattle.mu_model_node.proofs.Places.{empty_lengths, put_lengths, length_put, whole_length}
 
 -- ---- a server's current block
 
@@ -110,13 +110,18 @@ is_none (Some a) e = cc
 
 begun : (v : Server) (to : ℕ) (p : Parameters) (t : Transfer) → AreInRange p → v.serving ≡ Lacking t → v.session.current ≡ None → nat_lt v.capacity p.size ≡ false → (nat_lt p.log least_log || nat_lt most_log p.log) ≡ false → not (p.size == t.size) ≡ false → Good v (tell v (linked v.now to v.session) (Begins p) to 0)
 begun v to p t range is empty room log size = record {
-  change = (empty, t, is, record {
-    range = range;
-    room = grind (arith, nat_tests);
-    log_above = grind (arith, nat_tests);
-    log_below = grind (arith, nat_tests);
-    size = grind (arith, nat_tests);
-  });
+  change = (
+    empty,
+    t,
+    is,
+    record {
+      range = range;
+      room = grind (arith, nat_tests);
+      log_above = grind (arith, nat_tests);
+      log_below = grind (arith, nat_tests);
+      size = grind (arith, nat_tests);
+    },
+  );
 }
 
 started : (v : Server) (to : ℕ) (p : Parameters) (t : Transfer) → AreInRange p → v.serving ≡ Lacking t → t.parameters ≡ None → CurrentIn v.serving v.session.current → Good v (starts v to p t)
@@ -194,13 +199,18 @@ over v l e h = same v (silently l) refl e h
 
 completed : (v : Server) (t : Transfer) (p : Parameters) (c : CurrentBlock) (chunks : Slots) → v.serving ≡ Lacking t → t.parameters ≡ Some p → IsCurrent p t.held c → length chunks ≡ length c.chunks → HaveLengths (chunk_length (block_length p.size p.log c.number) c.chunk_size) chunks → is_full chunks ≡ true → Good v (completes (heard_at v.now v.session) p c chunks)
 completed v t p c chunks is has k count lengths full = record {
-  change = (refl, t, is, record {
-    parameters = p;
-    has = has;
-    number = k.number;
-    unheld = k.unheld;
-    whole = whole_length (block_length p.size p.log c.number) c.chunk_size chunks (omega (arith, k.size_above)) full (count ∙ k.count) lengths;
-  });
+  change = (
+    refl,
+    t,
+    is,
+    record {
+      parameters = p;
+      has = has;
+      number = k.number;
+      unheld = k.unheld;
+      whole = whole_length (block_length p.size p.log c.number) c.chunk_size chunks (omega (arith, k.size_above)) full (count ∙ k.count) lengths;
+    },
+  );
 }
 
 kept : (v : Server) (t : Transfer) (p : Parameters) (c : CurrentBlock) (chunks : Slots) → v.serving ≡ Lacking t → t.parameters ≡ Some p → IsCurrent p t.held c → length chunks ≡ length c.chunks → HaveLengths (chunk_length (block_length p.size p.log c.number) c.chunk_size) chunks → Good v (silently (record (heard_at v.now v.session) { current = Some (record c { chunks = chunks }) }))

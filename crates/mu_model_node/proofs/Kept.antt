@@ -1,17 +1,16 @@
 -- What is true of a node and its log, and how each change of the durable state keeps it.
-use Rattle.std.proofs.Common.{◌<◌, arith, ◌≡◌, ℕ, List, [], ◌∷◌, ◌++◌, refl, sym, ap, subst, zero, suc, ◌⊎◌, inl, inr, Option, Some, None, set}
+use Rattle.std.proofs.Common.{arith, ◌≡◌, ℕ, List, [], ◌∷◌, ◌++◌, refl, sym, ap, subst, zero, suc, ◌⊎◌, inl, inr, Option, Some, None, set}
 use Rattle.std.specs.Prelude.{slice_get, ⊤}
 use Rattle.mu_model_image.specs.Meta.{Image, IsFit}
 use Rattle.mu_model_node.specs.Slots.{Slots, joined}
 use Rattle.mu_model_node.specs.BlobMessages.{Parameters}
-use Rattle.mu_model_node.specs.NodeMessages.{Request}
 use Rattle.mu_model_node.specs.BlobServer.{Link}
 use Rattle.mu_model_node.specs.NodeState.{Stored, Filling, Verified, Refused, Applied, Job, NodeDurable, NodeState, update_phase, update_number, job_phase}
 use Rattle.mu_model_node.specs.TimeTable.{image_of_job}
 use Rattle.mu_model_node.specs.Log.{LogEntry, Took, Asked, Active, Reached, took, asked, gone, reached, logged_by, logged}
 use Rattle.mu_model_node.specs.Safe.{InOrder, none, here, IsUpdated, ImageIsSafe, ImagesAreSafe}
 use Rattle.mu_model_node.proofs.Order.{in_order, in_right, in_left}
-use Rattle.mu_model_node.proofs.Moves.{Move, Stays, Loses, Takes, Fills, Verifies, Refuses, Asks, Activates}
+use Rattle.mu_model_node.proofs.Moves.{Cause, Move, Stays, Loses, Takes, Fills, Verifies, Refuses, Asks, Activates}
 
 -- what the log has of a job, by how far it is
 abbrev pub StoredIsKnown : List LogEntry → Job → Stored → Type 0
@@ -138,7 +137,7 @@ at_job : (log : List LogEntry) (G : Option Job → Type 0) (old : Option Job) (i
 at_job log G old i e f h = subst G (sym e) (f (subst (IsKnown log) e h))
 
 -- EACH MOVE KEEPS THE INVARIANT, whatever is running after it
-pub move_kept : (cause : Option Request) (first : List Image) (log : List LogEntry) (s t : NodeState) → Move cause s t.durable → NodeKept first log s.durable → NodeKept first (log ++ logged s t) t.durable
+pub move_kept : (cause : Cause) (first : List Image) (log : List LogEntry) (s t : NodeState) → Move cause s t.durable → NodeKept first log s.durable → NodeKept first (log ++ logged s t) t.durable
 move_kept cause first log s t (Stays e is) h = writes first log s.durable t.durable (update_number (update_phase s)) t.session.link s.durable.job e is h (known_more log _ s.durable.job h.job)
 move_kept cause first log s t (Loses i by was g e is) h = writes first log s.durable t.durable (update_number (update_phase s)) t.session.link None e is h tt
 move_kept cause first log s t (Takes u j active by o f free at above new e is) h = writes first log s.durable t.durable (update_number (update_phase s)) t.session.link (Some j) e is h (takes log s.durable.job _ t.session.link j f new)

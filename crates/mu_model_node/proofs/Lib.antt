@@ -6,4 +6,7 @@ pub mod Runs
 pub mod Places
 pub mod BlobSound
 pub mod NodeSound
+pub mod Steps
+pub mod Causes
+pub mod Ranges
 pub mod Worked

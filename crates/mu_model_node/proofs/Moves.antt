@@ -1,27 +1,27 @@
 -- The few ways in which an event may change the durable state, and that each row is one of them.
-use Rattle.std.proofs.Common.{◌≡◌, ◌<◌, ◌≤◌, ℕ, Bool, true, false, List, [], ◌∷◌, refl, sym, ap, subst, arith, cond, Option, Some, None, Result, Ok, Err, set, length}
-use Rattle.std.specs.Prelude.{⊤, slice_get, ◌||◌, bytes_eq, nat_le, nat_lt}
+use Rattle.std.proofs.Common.{◌≡◌, ◌<◌, ℕ, Bool, true, false, List, [], ◌∷◌, refl, sym, ap, subst, arith, cond, Option, Some, None, Result, Ok, Err, set}
+use Rattle.std.specs.Prelude.{⊤, slice_get, ◌||◌}
 use Rattle.std.proofs.lemmas.Bool.Decides.{nat_tests}
 use Rattle.std.proofs.lemmas.Slice.Eq.{bytes_eq-Decides}
 use Rattle.sha2.specs.Sha256.{sha256}
 use Rattle.mu_model_image.specs.declared.Meta.{Meta}
 use Rattle.mu_model_image.specs.Meta.{Image, IsFit, meta_from}
 use Rattle.mu_model_node.specs.Slots.{Slots, is_full, joined}
-use Rattle.mu_model_node.specs.BlobMessages.{Parameters, BlobRequest}
+use Rattle.mu_model_node.specs.BlobMessages.{Parameters}
 use Rattle.mu_model_node.specs.UpdateMessages.{UpdateStart, UpdateRequest, InformationGet, MetadataCheck, UpdateGet, StartUpdate, UpdateCancel, UpdateApply}
 use Rattle.mu_model_node.specs.NodeMessages.{Request, OfUpdate, OfBlob, request_at}
-use Rattle.mu_model_node.specs.BlobServer.{Link, Cut, Ready, Running, Change, Same, changed}
-use Rattle.mu_model_node.specs.BlobTable.{Served, on_blob, on_server_time}
+use Rattle.mu_model_node.specs.BlobServer.{Link, Cut, Ready, Running, Change, Same}
+use Rattle.mu_model_node.specs.BlobTable.{Served, on_server_time}
 use Rattle.mu_model_node.specs.FlashWork.{Untouched, Recorded}
-use Rattle.mu_model_node.specs.NodeState.{Stored, Filling, Verified, Refused, Applied, Job, NodeDurable, NodeState, UpdatePhase, Idle, TransferError, TransferActive, Verifying, Succeeded, Failed, Applying, update_number, link_phase, filling_phase, stored_phase, job_phase, update_phase, transfer_of, serving_in, server_of, is_addressee}
+use Rattle.mu_model_node.specs.NodeState.{Stored, Filling, Verified, Refused, Applied, Job, NodeDurable, NodeState, UpdatePhase, Idle, TransferError, TransferActive, Verifying, Succeeded, Failed, Applying, update_number, link_phase, filling_phase, stored_phase, job_phase, update_phase, serving_in, server_of, is_addressee}
 use Rattle.mu_model_node.specs.NodeOutcome.{Outcome, job_changed, served}
 use Rattle.mu_model_node.specs.UpdateTable.{same_start, new_job, check, check_image, takes_checked, takes, on_update_start, on_update_cancel, on_update_apply, on_update}
-use Rattle.mu_model_node.specs.TimeTable.{fits, verified, activated, image_of_job, on_time}
+use Rattle.mu_model_node.specs.TimeTable.{fits, verified, image_of_job, on_time}
 use Rattle.mu_model_node.specs.Events.{NodeEvent, PacketComes, TimeComes, at_moment, on_request, on_packet, on_event, node_step}
-use Rattle.mu_model_node.specs.Log.{LogEntry, Took, is_new, same_job, took}
+use Rattle.mu_model_node.specs.Log.{Took, is_new, same_job, took}
 use Rattle.mu_model_node.specs.Safe.{InOrder, none, here}
 use Rattle.mu_model_node.specs.declared.NodeConfig.{NodeConfig}
-use Rattle.mu_model_node.proofs.BlobRows.{IsLacking, MayWrite, Sound, blob_so, time_same}
+use Rattle.mu_model_node.proofs.BlobRows.{IsLacking, MayWrite, blob_so, time_same}
 
 -- a job that may be replaced
 abbrev pub IsOpenIn : Stored → Type 0
@@ -45,16 +45,22 @@ pub record IsOf (u : UpdateStart) (j : Job) : Type 0 where
   pub index : j.index ≡ u.index
   pub meta : meta_from u.metadata ≡ Some j.meta
 
--- How an event may change the durable state of a node in state s. What was asked is there for a message, and none for the time.
-pub data Move (cause : Option Request) (s : NodeState) (d : NodeDurable) : Type 0 where
+-- what an event is to a node: a message that it takes, time, or a packet that isn't handled
+pub data Cause : Type 0 where
+  ByRequest : Request → Cause
+  ByTime : Cause
+  ByNothing : Cause
+
+-- how an event may change the durable state of a node in state s
+pub data Move (cause : Cause) (s : NodeState) (d : NodeDurable) : Type 0 where
   Stays : d.images ≡ s.durable.images → d.job ≡ s.durable.job → Move cause s d
-  Loses : (i : Job) → cause ≡ Some (OfUpdate UpdateCancel) → s.durable.job ≡ Some i → MayGoIn i.stored → d.images ≡ s.durable.images → d.job ≡ None → Move cause s d
-  Takes : (u : UpdateStart) (j : Job) (active : Image) → cause ≡ Some (OfUpdate (StartUpdate u)) → IsOf u j → j.stored ≡ Filling → IsOpen s.durable.job → slice_get s.durable.images j.index ≡ Some active → active.meta.version < j.meta.version → InOrder (Took j.id j.index j.meta ∷ []) (took s.durable.job (Some j)) → d.images ≡ s.durable.images → d.job ≡ Some j → Move cause s d
+  Loses : (i : Job) → cause ≡ ByRequest (OfUpdate UpdateCancel) → s.durable.job ≡ Some i → MayGoIn i.stored → d.images ≡ s.durable.images → d.job ≡ None → Move cause s d
+  Takes : (u : UpdateStart) (j : Job) (active : Image) → cause ≡ ByRequest (OfUpdate (StartUpdate u)) → IsOf u j → j.stored ≡ Filling → IsOpen s.durable.job → slice_get s.durable.images j.index ≡ Some active → active.meta.version < j.meta.version → InOrder (Took j.id j.index j.meta ∷ []) (took s.durable.job (Some j)) → d.images ≡ s.durable.images → d.job ≡ Some j → Move cause s d
   Fills : (i : Job) (parameters : Option Parameters) (held : Slots) → s.durable.job ≡ Some i → i.stored ≡ Filling → d.images ≡ s.durable.images → d.job ≡ Some (record i { parameters = parameters; held = held }) → Move cause s d
-  Verifies : (i : Job) → cause ≡ None → s.durable.job ≡ Some i → i.stored ≡ Filling → update_number (update_phase s) ≡ 3 → IsFit (joined i.held) i.meta → d.images ≡ s.durable.images → d.job ≡ Some (record i { stored = Verified }) → Move cause s d
-  Refuses : (i : Job) → cause ≡ None → s.durable.job ≡ Some i → i.stored ≡ Filling → d.images ≡ s.durable.images → d.job ≡ Some (record i { stored = Refused; parameters = None; held = [] }) → Move cause s d
-  Asks : (i : Job) → cause ≡ Some (OfUpdate UpdateApply) → s.durable.job ≡ Some i → i.stored ≡ Verified → d.images ≡ s.durable.images → d.job ≡ Some (record i { stored = Applied }) → Move cause s d
-  Activates : (i : Job) → cause ≡ None → s.durable.job ≡ Some i → i.stored ≡ Applied → d.images ≡ set s.durable.images i.index (image_of_job i) → d.job ≡ None → Move cause s d
+  Verifies : (i : Job) → cause ≡ ByTime → s.durable.job ≡ Some i → i.stored ≡ Filling → update_number (update_phase s) ≡ 3 → IsFit (joined i.held) i.meta → d.images ≡ s.durable.images → d.job ≡ Some (record i { stored = Verified }) → Move cause s d
+  Refuses : (i : Job) → cause ≡ ByTime → s.durable.job ≡ Some i → i.stored ≡ Filling → d.images ≡ s.durable.images → d.job ≡ Some (record i { stored = Refused; parameters = None; held = [] }) → Move cause s d
+  Asks : (i : Job) → cause ≡ ByRequest (OfUpdate UpdateApply) → s.durable.job ≡ Some i → i.stored ≡ Verified → d.images ≡ s.durable.images → d.job ≡ Some (record i { stored = Applied }) → Move cause s d
+  Activates : (i : Job) → cause ≡ ByTime → s.durable.job ≡ Some i → i.stored ≡ Applied → d.images ≡ set s.durable.images i.index (image_of_job i) → d.job ≡ None → Move cause s d
 
 -- ---- what a phase says of the job
 
@@ -88,17 +94,17 @@ phase_of link (Some j) = of_stored j link j.stored refl
 
 -- ---- outcomes
 
-pub record Moves (cause : Option Request) (s : NodeState) (o : Outcome) : Type 0 where
+pub record Moves (cause : Cause) (s : NodeState) (o : Outcome) : Type 0 where
   pub move : Move cause s o.next.durable
 
-stays : {cause : Option Request} (s : NodeState) (o : Outcome) → o.next.durable ≡ s.durable → Moves cause s o
+stays : {cause : Cause} (s : NodeState) (o : Outcome) → o.next.durable ≡ s.durable → Moves cause s o
 stays s o e = record { move = Stays (ap (λ (d : NodeDurable). d.images) e) (ap (λ (d : NodeDurable). d.job) e) }
 
-split : {cause : Option Request} (s : NodeState) (b : Bool) (x y : Outcome) → Moves cause s x → Moves cause s y → Moves cause s (cond b x y)
+split : {cause : Cause} (s : NodeState) (b : Bool) (x y : Outcome) → Moves cause s x → Moves cause s y → Moves cause s (cond b x y)
 split s true x y h k = h
 split s false x y h k = k
 
-split_by : {cause : Option Request} (s : NodeState) (b : Bool) (x y : Outcome) → (b ≡ true → Moves cause s x) → (b ≡ false → Moves cause s y) → Moves cause s (cond b x y)
+split_by : {cause : Cause} (s : NodeState) (b : Bool) (x y : Outcome) → (b ≡ true → Moves cause s x) → (b ≡ false → Moves cause s y) → Moves cause s (cond b x y)
 split_by s true x y h k = h refl
 split_by s false x y h k = k refl
 
@@ -115,7 +121,7 @@ check_gives d (Some active) (Some other) meta h =
 
 begins : (s : NodeState) (to : ℕ) (u : UpdateStart) (r : Result Meta ℕ) → IsOpen s.durable.job
     → ((meta : Meta) → r ≡ Ok meta → (is_new s.durable.job (new_job u meta) ≡ true) × (meta_from u.metadata ≡ Some meta) × (active : Image) × (slice_get s.durable.images u.index ≡ Some active) × (active.meta.version < meta.version))
-    → Moves (Some (OfUpdate (StartUpdate u))) s (takes_checked s to u r)
+    → Moves (ByRequest (OfUpdate (StartUpdate u))) s (takes_checked s to u r)
 begins s to u (Err status) free f = stays s _ refl
 begins s to u (Ok meta) free f =
     let g = f meta refl in
@@ -126,10 +132,10 @@ or_true : (b : Bool) → (b || true) ≡ true
 or_true true = refl
 or_true false = refl
 
-offers : (s : NodeState) (to : ℕ) (u : UpdateStart) → IsOpen s.durable.job → ((meta : Meta) → meta_from u.metadata ≡ Some meta → is_new s.durable.job (new_job u meta) ≡ true) → Moves (Some (OfUpdate (StartUpdate u))) s (takes s to u)
+offers : (s : NodeState) (to : ℕ) (u : UpdateStart) → IsOpen s.durable.job → ((meta : Meta) → meta_from u.metadata ≡ Some meta → is_new s.durable.job (new_job u meta) ≡ true) → Moves (ByRequest (OfUpdate (StartUpdate u))) s (takes s to u)
 offers s to u free f = begins s to u (check s.durable u.index u.metadata) free (λ meta e. let g = check_gives s.durable (slice_get s.durable.images u.index) (meta_from u.metadata) meta e in (f meta g.0, g.0, g.1, g.2, g.3))
 
-starts : (s : NodeState) (to : ℕ) (u : UpdateStart) (phase : UpdatePhase) → PhaseOf s.durable.job phase → Moves (Some (OfUpdate (StartUpdate u))) s (on_update_start s to u phase)
+starts : (s : NodeState) (to : ℕ) (u : UpdateStart) (phase : UpdatePhase) → PhaseOf s.durable.job phase → Moves (ByRequest (OfUpdate (StartUpdate u))) s (on_update_start s to u phase)
 starts s to u Idle h = offers s to u (rw h tt) (λ meta e. rw h refl)
 starts s to u (TransferError j) h =
     split_by s (same_start u j) _ _ (λ yes. stays s _ refl)
@@ -142,7 +148,7 @@ starts s to u (Succeeded j) h = stays s _ refl
 starts s to u (Failed j) h = offers s to u (rw (h.0, h.1) tt) (λ meta e. rw (h.0, h.1) (or_true _))
 starts s to u (Applying j) h = stays s _ refl
 
-cancels : (s : NodeState) (to : ℕ) (phase : UpdatePhase) → PhaseOf s.durable.job phase → Moves (Some (OfUpdate UpdateCancel)) s (on_update_cancel s to phase)
+cancels : (s : NodeState) (to : ℕ) (phase : UpdatePhase) → PhaseOf s.durable.job phase → Moves (ByRequest (OfUpdate UpdateCancel)) s (on_update_cancel s to phase)
 cancels s to Idle h = stays s _ refl
 cancels s to (Applying j) h = stays s _ refl
 cancels s to (TransferError j) h = record { move = Loses j refl h.0 (rw (h.1) tt) refl refl }
@@ -151,12 +157,12 @@ cancels s to (Verifying j) h = record { move = Loses j refl h.0 (rw (h.1) tt) re
 cancels s to (Succeeded j) h = record { move = Loses j refl h.0 (rw (h.1) tt) refl refl }
 cancels s to (Failed j) h = record { move = Loses j refl h.0 (rw (h.1) tt) refl refl }
 
-applies : (s : NodeState) (to : ℕ) (phase : UpdatePhase) → PhaseOf s.durable.job phase → Moves (Some (OfUpdate UpdateApply)) s (on_update_apply s to phase)
+applies : (s : NodeState) (to : ℕ) (phase : UpdatePhase) → PhaseOf s.durable.job phase → Moves (ByRequest (OfUpdate UpdateApply)) s (on_update_apply s to phase)
 applies s to (Succeeded j) h = record { move = Asks j refl h.0 h.1 refl refl }
 applies s to (Applying j) h = stays s _ refl
 applies s to _ h = stays s _ refl
 
-updates : (s : NodeState) (to : ℕ) (request : UpdateRequest) → Moves (Some (OfUpdate request)) s (on_update s to request)
+updates : (s : NodeState) (to : ℕ) (request : UpdateRequest) → Moves (ByRequest (OfUpdate request)) s (on_update s to request)
 updates s to (InformationGet first limit) = stays s _ refl
 updates s to (MetadataCheck index metadata) = stays s _ refl
 updates s to UpdateGet = stays s _ refl
@@ -176,7 +182,7 @@ lacking job (TransferError j) h k = rw (h.0) h.1
 lacking job (TransferActive j) h k = rw (h.0) h.1
 lacking job _ h k = absurd k
 
-change_moves : {cause : Option Request} (s : NodeState) (o : Served) (c : Change) → o.change ≡ c → (job : Option Job) → s.durable.job ≡ job → MayWrite (serving_in (update_phase s)) c → Moves cause s (served s o)
+change_moves : {cause : Cause} (s : NodeState) (o : Served) (c : Change) → o.change ≡ c → (job : Option Job) → s.durable.job ≡ job → MayWrite (serving_in (update_phase s)) c → Moves cause s (served s o)
 change_moves s o Same e None is h = stays s _ (rw (e, is) refl)
 change_moves s o Same e (Some j) is h = stays s _ (rw (e, is) refl)
 change_moves s o c e None is h = absurd (subst FillingOf is (lacking s.durable.job (update_phase s) (phase_of s.session.link s.durable.job) h))
@@ -184,7 +190,7 @@ change_moves s o c e (Some j) is h =
     let f : j.stored ≡ Filling = subst FillingOf is (lacking s.durable.job (update_phase s) (phase_of s.session.link s.durable.job) h) in
     record { move = Fills j (job_changed c j).parameters (job_changed c j).held is f (rw (e, is) refl) (rw (e, is) refl) }
 
-serves : {cause : Option Request} (s : NodeState) (o : Served) → MayWrite (server_of s).serving o.change → Moves cause s (served s o)
+serves : {cause : Cause} (s : NodeState) (o : Served) → MayWrite (server_of s).serving o.change → Moves cause s (served s o)
 serves s o h = change_moves s o o.change refl s.durable.job refl h
 
 -- ---- time
@@ -195,40 +201,43 @@ fits_true octets meta e = record {
   digest = grind (arith, nat_tests, bytes_eq-Decides (sha256 octets) meta.digest);
 }
 
-seals : (s : NodeState) (j : Job) (b : Bool) → s.durable.job ≡ Some j → j.stored ≡ Filling → update_number (update_phase s) ≡ 3 → (b ≡ true → IsFit (joined j.held) j.meta) → Moves None s (record { next = verified s j b; replies = []; work = Recorded false })
+seals : (s : NodeState) (j : Job) (b : Bool) → s.durable.job ≡ Some j → j.stored ≡ Filling → update_number (update_phase s) ≡ 3 → (b ≡ true → IsFit (joined j.held) j.meta) → Moves ByTime s (record { next = verified s j b; replies = []; work = Recorded false })
 seals s j true is e three f = record { move = Verifies j refl is e three (f refl) refl refl }
 seals s j false is e three f = record { move = Refuses j refl is e refl refl }
 
-times : (s : NodeState) (phase : UpdatePhase) → update_phase s ≡ phase → PhaseOf s.durable.job phase → Moves None s (on_time s phase)
+times : (s : NodeState) (phase : UpdatePhase) → update_phase s ≡ phase → PhaseOf s.durable.job phase → Moves ByTime s (on_time s phase)
 times s (Applying j) is h = record { move = Activates j refl h.0 h.1 refl refl }
 times s (Verifying j) is h = seals s j (fits (joined j.held) j.meta) h.0 h.1 (ap update_number is) (fits_true (joined j.held) j.meta)
 times s phase is h = serves s (on_server_time (server_of s) (serving_in phase)) (subst (MayWrite (server_of s).serving) (sym (time_same (server_of s) (serving_in phase))) tt)
 
 -- ---- all
 
-pub asks : (s : NodeState) (from : ℕ) (request : Request) → Moves (Some request) s (on_request s from request)
+pub asks : (s : NodeState) (from : ℕ) (request : Request) → Moves (ByRequest request) s (on_request s from request)
 asks s from (OfUpdate request) = updates s from request
 asks s from (OfBlob request) = serves s _ (blob_so (server_of s) from request).writes
 
-pub passes : (s : NodeState) → Moves None s (on_time s (update_phase s))
+pub passes : (s : NodeState) → Moves ByTime s (on_time s (update_phase s))
 passes s = times s (update_phase s) refl (phase_of s.session.link s.durable.job)
 
--- what an event asks, of a node of such a configuration
-abbrev pub cause_by : Bool → NodeEvent → Option Request
-cause_by true (PacketComes packet) = request_at packet.payload
-cause_by _ _ = None
+abbrev pub cause_in : Option Request → Cause
+cause_in (Some request) = ByRequest request
+cause_in None = ByNothing
 
-abbrev pub cause_of : NodeConfig → NodeEvent → Option Request
-cause_of config (PacketComes packet) = cause_by (is_addressee config packet) (PacketComes packet)
-cause_of config TimeComes = None
+abbrev pub cause_by : Bool → Option Request → Cause
+cause_by true request = cause_in request
+cause_by false request = ByNothing
 
-packet_moves : (config : NodeConfig) (s : NodeState) (from : ℕ) (request : Option Request) → Move request s (on_packet config s from request).next.durable
+abbrev pub cause_of : NodeConfig → NodeEvent → Cause
+cause_of config (PacketComes packet) = cause_by (is_addressee config packet) (request_at packet.payload)
+cause_of config TimeComes = ByTime
+
+packet_moves : (config : NodeConfig) (s : NodeState) (from : ℕ) (request : Option Request) → Move (cause_in request) s (on_packet config s from request).next.durable
 packet_moves config s from (Some request) = (asks s from request).move
 packet_moves config s from None = Stays refl refl
 
 event_moves : (config : NodeConfig) (s : NodeState) (event : NodeEvent) → Move (cause_of config event) s (on_event config s event).next.durable
 event_moves config s (PacketComes packet) =
-    elim (is_addressee config packet) as (λ b. Move (cause_by b (PacketComes packet)) s (cond b (on_packet config s packet.from (request_at packet.payload)) (record { next = s; sent = []; handled = false; work = Untouched })).next.durable) [
+    elim (is_addressee config packet) as (λ b. Move (cause_by b (request_at packet.payload)) s (cond b (on_packet config s packet.from (request_at packet.payload)) (record { next = s; sent = []; handled = false; work = Untouched })).next.durable) [
       | true ↦ packet_moves config s packet.from (request_at packet.payload)
       | false ↦ Stays refl refl
     ]

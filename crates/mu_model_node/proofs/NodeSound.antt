@@ -1,28 +1,27 @@
 -- Each event keeps a node's state sound, and writes as its work says.
-use Rattle.std.proofs.Common.{◌≡◌, ◌<◌, ◌≤◌, ℕ, zero, suc, ◌+◌, ◌-◌, ◌/◌, ◌^◌, Bool, true, false, List, [], ◌∷◌, length, refl, sym, ap, subst, ◌∙◌, cond, arith, Option, Some, None, Result, Ok, Err, ◌⊎◌, inl, inr, set}
-use Rattle.std.specs.Prelude.{⊤, ◌==◌, ◌&&◌, nat_lt, nat_le, is_some, slice_get}
-use Rattle.std.specs.List.{count_by}
+use Rattle.std.proofs.Common.{◌≡◌, ◌<◌, ◌≤◌, ℕ, zero, suc, ◌+◌, ◌-◌, Bool, true, false, List, [], ◌∷◌, length, refl, sym, subst, ◌∙◌, cond, arith, Option, Some, None, Result, Ok, Err, set}
+use Rattle.std.specs.Prelude.{⊤, ◌==◌, ◌&&◌, nat_lt, is_some, slice_get}
 use Rattle.std.proofs.lemmas.List.{length-replicate, length-set}
 use Rattle.std.proofs.lemmas.List.Sums.{sum_by-cons}
 use Rattle.std.proofs.lemmas.Bool.Decides.{nat_tests}
 use Rattle.mu_model_image.specs.declared.Meta.{Meta}
 use Rattle.mu_model_image.specs.Meta.{Image, IsFit, meta_of, meta_from}
-use Rattle.mu_model_image.specs.Pieces.{piece_count, block_count, block_length}
+use Rattle.mu_model_image.specs.Pieces.{block_count, block_length}
 use Rattle.mu_model_node.specs.Slots.{Slots, empty, at, put, is_full, joined, held_count}
-use Rattle.mu_model_node.specs.BlobMessages.{Parameters, BlobRequest}
+use Rattle.mu_model_node.specs.BlobMessages.{Parameters}
 use Rattle.mu_model_node.specs.UpdateMessages.{UpdateStart, UpdateRequest, InformationGet, MetadataCheck, UpdateGet, StartUpdate, UpdateCancel, UpdateApply}
 use Rattle.mu_model_node.specs.NodeMessages.{Request, OfUpdate, OfBlob}
-use Rattle.mu_model_node.specs.BlobServer.{Transfer, Link, Cut, Ready, Running, CurrentBlock, Session, unlinked, heard_at, made_ready, Serving, NoJob, Lacking, Whole, Change, Same, Begins, Drops, Puts, changed}
-use Rattle.mu_model_node.specs.BlobTable.{Served, on_blob, on_server_time}
-use Rattle.mu_model_node.specs.FlashWork.{FlashWork, Untouched, Recorded, Begun, PutBlock, fresh_after, page_octets}
+use Rattle.mu_model_node.specs.BlobServer.{Transfer, Link, Cut, Ready, Running, CurrentBlock, Session, heard_at, made_ready, Serving, NoJob, Lacking, Whole, Change, Same, Begins, Drops, Puts}
+use Rattle.mu_model_node.specs.BlobTable.{Served, on_server_time}
+use Rattle.mu_model_node.specs.FlashWork.{FlashWork, Untouched, Recorded, Begun, PutBlock, fresh_after}
 use Rattle.mu_model_node.specs.NodeState.{Stored, Filling, Verified, Refused, Applied, Job, NodeDurable, NodeState, UpdatePhase, Idle, TransferError, TransferActive, Verifying, Succeeded, Failed, Applying, link_phase, filling_phase, stored_phase, job_phase, update_phase, transfer_of, serving_in, server_of}
-use Rattle.mu_model_node.specs.NodeOutcome.{Outcome, with_session, recorded, with_job, marked, job_changed, job_after, work_of, served}
+use Rattle.mu_model_node.specs.NodeOutcome.{Outcome, with_session, recorded, with_job, job_after, work_of, served}
 use Rattle.mu_model_node.specs.UpdateTable.{same_start, new_job, check, check_image, takes_checked, takes, without_job, on_update_start, on_update_cancel, on_update_apply, on_update}
 use Rattle.mu_model_node.specs.TimeTable.{fits, verified, activated, image_of_job, on_time}
 use Rattle.mu_model_node.specs.Events.{on_request}
-use Rattle.mu_model_node.specs.Sound.{HaveLengths, IsActiveImage, AreBlocks, HasBlocks, IsWhole, StoredIs, IsNewer, IsJob, HasJob, IsNodeDurable, RequestFits, IsCurrent, IsCurrentOf, HasCurrent, IsNodeState}
-use Rattle.mu_model_node.proofs.Places.{at_empty, empty_lengths, put_lengths, length_put, not_full, block_is_short, few_pages}
-use Rattle.mu_model_node.proofs.BlobSound.{IsCurrentIn, CurrentIn, MayBegin, Completes, ChangeIs, Good, blob_good, time_good}
+use Rattle.mu_model_node.specs.Sound.{IsActiveImage, AreBlocks, HasBlocks, IsWhole, StoredIs, IsNewer, IsJob, HasJob, IsNodeDurable, RequestFits, IsCurrent, HasCurrent, IsNodeState}
+use Rattle.mu_model_node.proofs.Places.{empty_lengths, put_lengths, length_put, not_full, block_is_short, few_pages}
+use Rattle.mu_model_node.proofs.BlobSound.{IsCurrentIn, CurrentIn, MayBegin, ChangeIs, Good, blob_good, time_good}
 use Rattle.mu_model_node.proofs.Moves.{PhaseOf, phase_of, fits_true}
 
 -- ---- the current block of the node and of its BLOB server

@@ -1,11 +1,8 @@
 -- Facts on places: what is put, what is empty, and how long all of it is.
-use Rattle.std.proofs.Common.{◌≡◌, ◌≢◌, ◌<◌, ◌≤◌, ℕ, zero, suc, ◌+◌, ◌-◌, ◌*◌, ◌/◌, ◌^◌, min, Bool, true, false, List, [], ◌∷◌, ◌++◌, length, replicate, set, get_or, refl, sym, ap, subst, arith, Option, Some, None, ◌⊎◌, inl, inr, ◌∙◌, length-append}
-use Rattle.std.specs.Prelude.{is_some, ◌&&◌}
-use Rattle.std.proofs.lemmas.Bool.Decides.{nat_tests}
-use Rattle.std.proofs.lemmas.List.{get_or-replicate, length-replicate, get_or-set_same, get_or-set_other}
+use Rattle.std.proofs.Common.{◌≡◌, ◌<◌, ◌≤◌, ℕ, zero, suc, ◌+◌, ◌-◌, ◌*◌, ◌^◌, min, true, false, List, [], ◌∷◌, length, refl, sym, ap, subst, arith, Some, None, ◌⊎◌, inl, inr, ◌∙◌, length-append}
 use Rattle.std.proofs.lemmas.Nat.{div-add-mod', mod_below}
 use Rattle.std.proofs.Math.Pow.{pow_mono}
-use Rattle.mu_model_image.specs.Pieces.{piece_count, piece_length, block_count, block_length, chunk_count, chunk_length}
+use Rattle.mu_model_image.specs.Pieces.{piece_count, piece_length, block_length}
 use Rattle.mu_model_node.specs.Slots.{Slots, empty, at, put, is_full, joined}
 use Rattle.mu_model_node.specs.Sound.{HaveLengths}
 

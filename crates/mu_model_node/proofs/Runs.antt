@@ -1,15 +1,15 @@
 -- Whole runs of one node keep its invariant.
-use Rattle.std.proofs.Common.{◌≡◌, ℕ, zero, suc, List, [], ◌∷◌, ◌++◌, refl, sym, subst, append_assoc, append-nil, ◌⊎◌, inl, inr, Option, Some, None, get_or, replicate, cond, true, false, Bool, ◌*◌}
-use Rattle.std.specs.Prelude.{◌==◌, MatchOption, slice_get}
+use Rattle.std.proofs.Common.{◌≡◌, ℕ, zero, suc, List, [], ◌∷◌, ◌++◌, refl, subst, append_assoc, append-nil, inl, Option, Some, None, get_or, replicate, cond, true, false, Bool, ◌*◌}
+use Rattle.std.specs.Prelude.{◌==◌}
 use Rattle.mu_model_image.specs.Meta.{Image}
-use Rattle.mu_model_node.specs.FlashWork.{FlashWork, Untouched, Recorded, Begun, PutBlock, passed_by, record_work, work_by}
+use Rattle.mu_model_node.specs.FlashWork.{FlashWork, Untouched, Recorded, Begun, PutBlock, record_work, work_by}
 use Rattle.mu_model_node.specs.NodeState.{Stored, Filling, Verified, Refused, Applied, Job, NodeDurable, NodeState, restarted}
-use Rattle.mu_model_node.specs.Events.{NodeEvent, at_moment, node_step, node_work}
-use Rattle.mu_model_node.specs.Log.{LogEntry, Took, Asked, Reached, logged}
-use Rattle.mu_model_node.specs.Sound.{IsNodeDurable, IsJob, HasJob, StoredIs}
-use Rattle.mu_model_node.specs.Safe.{Happening, Done, CutPower, Torn, left_after, happened, state_after, log_after, InOrder, none, here, ImagesAreSafe, found_stored, found, OneNodeIsSafe}
+use Rattle.mu_model_node.specs.Events.{NodeEvent, at_moment, node_step}
+use Rattle.mu_model_node.specs.Log.{LogEntry, Took, logged}
+use Rattle.mu_model_node.specs.Sound.{IsNodeDurable, HasJob, StoredIs}
+use Rattle.mu_model_node.specs.Safe.{Happening, Done, CutPower, Torn, left_after, happened, state_after, log_after, none, here, found_stored, found, OneNodeIsSafe}
 use Rattle.mu_model_node.specs.declared.NodeConfig.{NodeConfig}
-use Rattle.mu_model_node.proofs.Moves.{Move, Stays, cause_of, steps}
+use Rattle.mu_model_node.proofs.Moves.{ByNothing, Stays, cause_of, steps}
 use Rattle.mu_model_node.proofs.Kept.{StoredIsKnown, IsKnown, NodeKept, move_kept}
 
 -- ---- what stands after an operation is the state before or the one after
@@ -51,7 +51,7 @@ after_work fresh old new (PutBlock pages) (suc i) = after_copies old new (2 * pa
 -- ---- each happening keeps the invariant
 
 stands : (first : List Image) (log : List LogEntry) (s t : NodeState) → t.durable ≡ s.durable → NodeKept first log s.durable → NodeKept first (log ++ logged s t) t.durable
-stands first log s t e h = move_kept None first log s t (rw e (Stays refl refl)) h
+stands first log s t e h = move_kept ByNothing first log s t (rw e (Stays refl refl)) h
 
 comes : (config : NodeConfig) (first : List Image) (log : List LogEntry) (s t : NodeState) (event : NodeEvent) (now : ℕ) → t.durable ≡ (node_step config s event now).next.durable → NodeKept first log s.durable → NodeKept first (log ++ logged s t) t.durable
 comes config first log s t event now e h = move_kept (cause_of config event) first log (at_moment s now) t (rw e (steps config s event now)) h

@@ -17,3 +17,5 @@ pub mod Events
 pub mod Log
 pub mod Sound
 pub mod Safe
+pub mod Laws
+pub mod Worked

@@ -1,6 +1,6 @@
 -- Which states a node can be in: what a boot may find, and what a run may have beside it. The ranges of numbers are those of the
 -- messages and of the records that have them.
-use Rattle.std.specs.Prelude.{ℕ, ◌≡◌, ◌<◌, ◌≤◌, ◌*◌, List, [], length, Option, Some, None, MatchOption, slice_get, is_some, true}
+use Rattle.std.specs.Prelude.{ℕ, ◌≡◌, ◌<◌, ◌≤◌, ◌*◌, List, [], length, Option, Some, None, slice_get, is_some, true}
 use Rattle.mu_model_image.specs.Meta.{Image, IsFit}
 use Rattle.mu_model_image.specs.Pieces.{block_count, block_length, chunk_count, chunk_length}
 use Rattle.mu_model_node.specs.Slots.{Slots, at, is_full, joined}

@@ -1,0 +1,8 @@
+use Rattle.mu_model_node.proofs.Steps.{events_keep, boots_are_sound}
+use Rattle.mu_model_node.proofs.laws.states_are_sound.Goals as goal
+
+pub returns-clause-events : goal.returns-clause-events
+returns-clause-events c = events_keep
+
+pub returns-clause-boots : goal.returns-clause-boots
+returns-clause-boots c = boots_are_sound
