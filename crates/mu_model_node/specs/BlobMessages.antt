@@ -6,14 +6,8 @@ use Rattle.mu_model_wire.specs.Names.{mode, id, size, log, mtu, status, phase, b
 use Rattle.mu_model_wire.specs.Reading.{value_of}
 use Rattle.mu_model_wire.specs.Reports.{bit_field, shown_numbers}
 use Rattle.mu_model_wire.specs.declared.reports.Report.{Report}
+pub use Rattle.mu_model_node.specs.declared.Parameters.{Parameters}
 use Rattle.mu_model_wire.specs.declared.reports.Report.TheVariants.{All, Nothing, Bits, List as Listed}
-
--- the parameters of a transfer: 1 push or 2 pull, octets of the BLOB, Block Size Log, and the client's MTU
-pub record Parameters : Type 0 where
-  pub mode : ℕ
-  pub size : ℕ
-  pub log : ℕ
-  pub mtu : ℕ
 
 pub data BlobRequest : Type 0 where
   BlobInformationGet : BlobRequest

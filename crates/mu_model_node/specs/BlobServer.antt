@@ -3,6 +3,9 @@
 use Rattle.std.specs.Prelude.{ℕ, List, [], Option, Some, None, if◌then◌else◌}
 use Rattle.mu_model_image.specs.Pieces.{block_count}
 use Rattle.mu_model_node.specs.BlobMessages.{Parameters}
+pub use Rattle.mu_model_node.specs.declared.Link.{Link}
+pub use Rattle.mu_model_node.specs.declared.Link.TheVariants.{Cut, Ready, Running}
+pub use Rattle.mu_model_node.specs.declared.LastBlock.{LastBlock}
 use Rattle.mu_model_node.specs.Slots.{Slots, empty, put, is_full}
 
 -- what a record keeps of a job's transfer
@@ -18,20 +21,11 @@ pub record Transfer : Type 0 where
 
 -- ---- what isn't kept
 
--- the link to a client: none, one may start a transfer, or one is under way (this profile)
-pub data Link : Type 0 where
-  Cut Ready Running : Link
-
 pub record CurrentBlock : Type 0 where
   pub number : ℕ
   pub chunk_size : ℕ
   -- a place for each chunk
   pub chunks : Slots
-
--- the block that was completed or asked for last
-pub record LastBlock : Type 0 where
-  pub number : ℕ
-  pub chunk_size : ℕ
 
 -- the last Partial Block Report of the current block, and when it was sent
 pub record PullReport : Type 0 where

@@ -1,18 +1,11 @@
 -- What an event does to the flash: the durable states that it goes through, and the one that stands after each operation.
 use Rattle.std.specs.Prelude.{ℕ, ◌*◌, ◌-◌, ◌==◌, Bool, true, false, List, [], ◌∷◌, ◌++◌, if◌then◌else◌, replicate}
+pub use Rattle.mu_model_node.specs.declared.FlashWork.{FlashWork}
+pub use Rattle.mu_model_node.specs.declared.FlashWork.TheVariants.{Untouched, Recorded, Begun, PutBlock}
 
 -- octets of a page of flash
 abbrev pub page_octets : ℕ
 page_octets = 4096
-
--- a record is long or short: a short one is a slot of a control page, a long one a whole control page
-pub data FlashWork : Type 0 where
-  Untouched : FlashWork
-  Recorded : (is_long : Bool) → FlashWork
-  -- a bank is begun: its mark page is erased, then a record is written
-  Begun : (is_long : Bool) → FlashWork
-  -- a block is put: its pages are erased and programmed, then its mark is set
-  PutBlock : (pages : ℕ) → FlashWork
 
 -- the slots after the present record that this run may still use, after a further record: a long record leaves none, and a
 -- short one begins a control page where there is none

@@ -8,10 +8,8 @@ use Rattle.mu_model_node.specs.Slots.{Slots, is_full}
 use Rattle.mu_model_node.specs.BlobServer.{Transfer, Link, Cut, Session, asleep, Serving, NoJob, Lacking, Whole, Server, BlobPhase, server_phase}
 use Rattle.mu_model_node.specs.FlashWork.{page_octets}
 use Rattle.mu_model_node.specs.declared.NodeConfig.{NodeConfig}
-
--- how far a job is, as its record says: blocks come, verified, found unfit, or asked for
-pub data Stored : Type 0 where
-  Filling Verified Refused Applied : Stored
+pub use Rattle.mu_model_node.specs.declared.Stored.{Stored}
+pub use Rattle.mu_model_node.specs.declared.Stored.TheVariants.{Filling, Verified, Refused, Applied}
 
 -- an update that was taken
 pub record Job : Type 0 where
