@@ -9,4 +9,5 @@ pub mod NodeSound
 pub mod Steps
 pub mod Causes
 pub mod Ranges
+pub mod Told
 pub mod Worked

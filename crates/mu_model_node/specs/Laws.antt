@@ -5,11 +5,14 @@ use Rattle.mu_model_wire.specs.Laws.{AreOctets}
 use Rattle.mu_model_wire.specs.Reports.{has, complement}
 use Rattle.mu_model_image.specs.Meta.{meta_from}
 use Rattle.mu_model_node.specs.Slots.{Slots, received, missing, is_full, held_count}
+use Rattle.mu_model_node.specs.BlobMessages.{BlobRequest}
+use Rattle.mu_model_node.specs.BlobServer.{serving_phase, serving_after}
+use Rattle.mu_model_node.specs.BlobTable.{on_blob}
 use Rattle.mu_model_node.specs.UpdateMessages.{UpdateStart, StartUpdate, UpdateCancel, UpdateApply}
-use Rattle.mu_model_node.specs.NodeMessages.{Request, OfUpdate, request_at}
+use Rattle.mu_model_node.specs.NodeMessages.{Request, OfUpdate, OfBlob, request_at}
 use Rattle.mu_model_node.specs.FlashWork.{FlashWork, PutBlock}
-use Rattle.mu_model_node.specs.NodeState.{Job, NodeDurable, NodeState, restarted, is_addressee, update_phase, update_number}
-use Rattle.mu_model_node.specs.Events.{NodeEvent, PacketComes, TimeComes, node_step, node_passed, node_work}
+use Rattle.mu_model_node.specs.NodeState.{Job, NodeDurable, NodeState, restarted, is_addressee, update_phase, update_number, server_of, blob_phase}
+use Rattle.mu_model_node.specs.Events.{NodeEvent, PacketComes, TimeComes, on_request, node_step, node_passed, node_work}
 use Rattle.mu_model_node.specs.Log.{LogEntry, Took, Asked, Active, Canceled, logged}
 use Rattle.mu_model_node.specs.Sound.{IsNodeDurable, IsNodeState, RequestFits}
 use Rattle.mu_model_node.specs.Safe.{left_after}
@@ -83,6 +86,15 @@ WorkIsBounded =
     (config : NodeConfig) (s : NodeState) (event : NodeEvent) (now : ℕ) → EventFits event → IsNodeState s
     → (length (node_work config s event now) ≤ pages_put (node_step config s event now).work + 5)
     × (pages_put (node_step config s event now).work ≤ 4)
+
+-- ---- what is told
+
+-- the phase that a BLOB reply tells is that of the state after the message
+abbrev pub ToldPhaseIsThePhase : Type 0
+ToldPhaseIsThePhase =
+    (s : NodeState) (from : ℕ) (request : BlobRequest)
+    → blob_phase (on_request s from (OfBlob request)).next
+    ≡ serving_phase (on_blob (server_of s) from request).session (serving_after (on_blob (server_of s) from request).change (server_of s).serving)
 
 -- ---- missing and received
 

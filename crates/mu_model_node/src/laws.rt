@@ -2,7 +2,7 @@
 
 ghost use Rattle.mu_model_node.specs.Safe.{OneNodeIsSafe};
 ghost use Rattle.mu_model_node.specs.Worked.{AWholeUpdate, PowerCuts, Refusals, TwoImages};
-ghost use Rattle.mu_model_node.specs.Laws.{OctetsAskInRange, EventsKeepStatesSound, BootsAreSound, StatesPassRising, WorkLeavesOldOrNew, WorkLeadsToTheNew, WorkIsBounded, MissingIsTheRest, FullLacksNone, EntriesHaveCauses};
+ghost use Rattle.mu_model_node.specs.Laws.{OctetsAskInRange, EventsKeepStatesSound, BootsAreSound, StatesPassRising, WorkLeavesOldOrNew, WorkLeadsToTheNew, WorkIsBounded, ToldPhaseIsThePhase, MissingIsTheRest, FullLacksNone, EntriesHaveCauses};
 
 use mu_model_wire::laws::{grammar_holds, reads_what_is_spelled};
 
@@ -32,6 +32,11 @@ pub fn flash_work()
     ensures left { WorkLeavesOldOrNew }
     ensures led { WorkLeadsToTheNew }
     ensures bounded { WorkIsBounded }
+{}
+
+/// A BLOB reply tells the phase after its message.
+pub fn told_phase()
+    ensures { ToldPhaseIsThePhase }
 {}
 
 /// Blocks and chunks are missing or received.

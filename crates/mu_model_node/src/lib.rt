@@ -63,15 +63,9 @@ pub enum FlashWork {
     /// Nothing.
     Untouched,
     /// A record is written: a short one is a slot of a control page, a long one a whole control page.
-    Recorded {
-        is_long: bool,
-    },
+    Recorded { is_long: bool },
     /// A bank is begun: its mark page is erased, then a record is written.
-    Begun {
-        is_long: bool,
-    },
+    Begun { is_long: bool },
     /// A block is put: its pages are erased and programmed, then its mark is set.
-    PutBlock {
-        pages: u32,
-    },
+    PutBlock { pages: u32 },
 }
