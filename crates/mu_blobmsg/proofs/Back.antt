@@ -33,7 +33,7 @@ report_back m =
     (cond (eqb (value_of format m.fields) 1) Nothing
     (cond (eqb (value_of format m.fields) 2) (Bits (record { items = octets_or_none bits m.fields })) (Listed (record { items = numbers_back m.entries }))))
 
-abbrev back : Message → BlobMsg
+abbrev pub back : Message → BlobMsg
 back m =
     cond (eqb m.opcode 0x8300) TransferGet
     (cond (eqb m.opcode 0x8301) (TransferStart (value_of mode m.fields) (value_of id m.fields) (value_of size m.fields) (value_of log m.fields) (value_of mtu m.fields))
@@ -89,7 +89,7 @@ status_back s m p i z l t b =
     (split mtu ∙ rw (number_other id mtu i refl, number_other size mtu z refl, number_other log mtu l refl, number_same mtu t, no_number mtu b, or_none t) refl)
     (ap lent_there octets_split ∙ lent_again b)
 
-back_view : (m : BlobMsg) → back (view m) ≡ content m
+pub back_view : (m : BlobMsg) → back (view m) ≡ content m
 back_view TransferGet = refl
 back_view (TransferStart m i s l t) = refl
 back_view (TransferCancel i) = refl

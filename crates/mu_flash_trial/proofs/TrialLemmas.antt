@@ -6,27 +6,11 @@ use Rattle.mu_model_flash.specs.Bits.{blank, written, part_of, SameOutside}
 use Rattle.mu_model_flash.specs.Flash.{Seen, IsSound, IsBefore}
 use Rattle.mu_model_flash.specs.Run.{exact, either, Refines, Ran, Runs}
 use Rattle.mu_model_flash.proofs.BitLemmas.{length-blank, get-blank, length-written, written-inside, written-after}
-use Rattle.mu_model_flash.proofs.RangeLemmas.{length-part, get-part, range-part, outside_same, torn-outside, mark_torn}
+use Rattle.mu_model_flash.proofs.RangeLemmas.{one_blank, length-part, get-part, range-part, outside_same, torn-outside, mark_torn}
 use Rattle.mu_model_flash.proofs.Readings.{runs_as}
 use Rattle.mu_model_flash.proofs.Compose.{told_back}
 use Rattle.mu_model_flash.proofs.Sentences.{done_of, failing_of}
 use Rattle.mu_flash_trial.specs.Trial.{before, with_erased, with_first, with_both, Stands, stages, Marks, Promised, CutsWhereArmed}
-
-single : (l : List ℕ) → length l ≡ 1 → l ≡ get_or l 0 0 ∷ []
-single [] e = absurd (cc e)
-single (x ∷ []) e = refl
-single (x ∷ y ∷ l) e = absurd (omega (arith, e))
-
--- an octet that reads FF
-pub one_blank : (c : List ℕ) (at : ℕ) → at + 1 ≤ length c → get_or c at 0 ≡ 255 → part_of c at 1 ≡ 255 ∷ []
-one_blank c at within is =
-    let zero_on : at + 0 ≡ at = omega arith in
-    single (part_of c at 1) (length-part c at 1 within)
-    ∙ ap (λ (x : ℕ). x ∷ []) (get-part c at 1 0 (omega arith) ∙ ap (λ (i : ℕ). get_or c i 0) zero_on ∙ is)
-
-pub reads_one : (c : List ℕ) (at : ℕ) → part_of c at 1 ≡ 255 ∷ [] → slice_range c at (at + 1) ≡ blank 1
-unfolding blank
-reads_one c at is = range-part c at 1 ∙ is
 
 module _ (old : List ℕ) (page : ℕ) (within : 4096 * page + 4096 ≤ length old) where
   ff : length (blank 4096) ≡ 4096

@@ -48,3 +48,6 @@ pub fn mark_page_in_two_calls<F: Flash>(flash: &mut F, page: u32) -> Result<(), 
     flash.erase(page)?;
     set_marks(flash, page)
 }
+
+#[cfg(test)]
+mod tests;

@@ -3,7 +3,7 @@ use Rattle.std.proofs.Common.{◌≡◌, ◌⊎◌, inl, inr, ⊎_elim, ℕ, zer
 use Rattle.std.proofs.lemmas.List.{get_or-take, get_or-drop, length-take-le, ext_get_or, get_or_past}
 use Rattle.std.proofs.lemmas.Nat.Bits.{same_from_bits, bit_at_above}
 use Rattle.std.specs.Int.{bit_at}
-use Rattle.mu_model_flash.specs.Bits.{written, part_of, SameOutside, IsMixOf, Between}
+use Rattle.mu_model_flash.specs.Bits.{blank, written, part_of, SameOutside, IsMixOf, Between}
 use Rattle.mu_model_flash.proofs.BitLemmas.{length-written, written-before, written-inside, written-after, place, read_back}
 
 pub length-part : (c : List ℕ) (at n : ℕ) → at + n ≤ length c → length (part_of c at n) ≡ n
@@ -166,6 +166,22 @@ one_bit g mix = ⊎_elim
     from_first b here there zero = here
     from_first b here there (suc k) = there k
 
+single : (l : List ℕ) → length l ≡ 1 → l ≡ get_or l 0 0 ∷ []
+single [] e = absurd (cc e)
+single (x ∷ []) e = refl
+single (x ∷ y ∷ l) e = absurd (omega (arith, e))
+
+-- an octet that reads FF
+pub one_blank : (c : List ℕ) (at : ℕ) → at + 1 ≤ length c → get_or c at 0 ≡ 255 → part_of c at 1 ≡ 255 ∷ []
+one_blank c at within is =
+    let zero_on : at + 0 ≡ at = omega arith in
+    single (part_of c at 1) (length-part c at 1 within)
+    ∙ ap (λ (x : ℕ). x ∷ []) (get-part c at 1 0 (omega arith) ∙ ap (λ (i : ℕ). get_or c i 0) zero_on ∙ is)
+
+pub reads_one : (c : List ℕ) (at : ℕ) → part_of c at 1 ≡ 255 ∷ [] → slice_range c at (at + 1) ≡ blank 1
+unfolding blank
+reads_one c at is = range-part c at 1 ∙ is
+
 -- the octets with one erased octet set to FE, in part: it is FF or FE
 pub mark_torn : (old : List ℕ) (at : ℕ) (c : List ℕ) → at + 1 ≤ length old → part_of old at 1 ≡ 255 ∷ [] → Between old (written old at (254 ∷ [])) c → (c ≡ old) ⊎ (c ≡ written old at (254 ∷ []))
 mark_torn old at c within is torn =
@@ -178,8 +194,3 @@ mark_torn old at c within is torn =
     (λ was. inl (same-whole old at 1 within (255 ∷ []) c refl out (one ∙ ap (λ (x : ℕ). x ∷ []) was) ∙ ap (λ (l : List ℕ). written old at l) (sym is) ∙ written-own old at 1 within))
     (λ now. inr (same-whole old at 1 within (254 ∷ []) c refl out (one ∙ ap (λ (x : ℕ). x ∷ []) now)))
     (one_bit (get_or (part_of c at 1) 0 0) mix)
-  where
-    single : (l : List ℕ) → length l ≡ 1 → l ≡ get_or l 0 0 ∷ []
-    single [] e = absurd (cc e)
-    single (x ∷ []) e = refl
-    single (x ∷ y ∷ l) e = absurd (omega (arith, e))

@@ -106,7 +106,7 @@ module _ {S T : Type 0} (R : Reading S) (Q : Reading T) where
   pub halts_as : (s : S) (xs : List S) (t : T) (ys : List T) (ByFlash : Type 0) (a b : Seen) → length xs ≡ length ys → (IsTrue a.told → Refines R Q s xs t ys) → Halts R s xs ByFlash a b → Halts Q t ys ByFlash a b
   halts_as s xs t ys ByFlash a b n r h = record { by_flash = λ by. broke_as s xs t ys a b n r (h.by_flash by); otherwise = λ not. stopped_as s xs t ys a b n r (h.otherwise not) }
 
-refines_same : {S : Type 0} (R : Reading S) (s : S) (xs : List S) → Refines R R s xs s xs
+pub refines_same : {S : Type 0} (R : Reading S) (s : S) (xs : List S) → Refines R R s xs s xs
 refines_same R s [] = λ c h. h
 refines_same R s (x ∷ xs) = (λ c h. h, λ c h. h, refines_same R x xs)
 

@@ -1,8 +1,8 @@
 -- What holds of metadata, Firmware IDs, images, blocks and chunks.
-use Rattle.std.specs.Prelude.{ℕ, ◌≡◌, ◌<◌, ◌*◌, ◌^◌, ◌↔◌, List, Some, length, map, sum, slice_index}
+use Rattle.std.specs.Prelude.{ℕ, ◌≡◌, ◌<◌, ◌*◌, ◌^◌, ◌↔◌, IsTrue, List, Some, length, map, sum, slice_index}
 use Rattle.std.specs.List.{All, concat}
 use Rattle.mu_model_image.specs.declared.Meta.{Meta}
-use Rattle.mu_model_image.specs.Meta.{meta_octets, meta_from, firmware_id, IsMeta, IsFit, image_of}
+use Rattle.mu_model_image.specs.Meta.{meta_octets, meta_from, firmware_id, IsMeta, IsFit, is_fit, image_of}
 use Rattle.mu_model_image.specs.Pieces.{block_of, block_count, block_length, blocks_of, chunk_of, chunk_count, chunk_length, chunks_of}
 use Rattle.mu_model_image.specs.Made.{made_octet, made_image}
 
@@ -29,6 +29,15 @@ FirmwareIdsDiffer =
 -- an image fits its own metadata
 abbrev pub ImagesFit : Type 0
 ImagesFit = (version : ℕ) (octets : List ℕ) → IsFit octets (image_of version octets).meta
+
+-- what an image's metadata says is in the ranges
+abbrev pub ImagesHaveMetadata : Type 0
+ImagesHaveMetadata =
+    (version : ℕ) (octets : List ℕ) → 0 < length octets → length octets < 2 ^ 32 → version < 2 ^ 32 → IsMeta (image_of version octets).meta
+
+-- the test says whether an image fits
+abbrev pub FitIsTested : Type 0
+FitIsTested = (octets : List ℕ) (meta : Meta) → IsTrue (is_fit octets meta) ↔ IsFit octets meta
 
 -- the blocks joined are the image
 abbrev pub BlocksAreTheImage : Type 0

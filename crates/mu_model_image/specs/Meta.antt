@@ -1,6 +1,6 @@
 -- Metadata, Firmware IDs and images. Numbers are little-endian. The layouts of metadata and Firmware ID are this
 -- profile's: MshDFU leaves the metadata, and what follows the company in a Firmware ID, to the vendor.
-use Rattle.std.specs.Prelude.{ℕ, ◌≡◌, ◌<◌, ◌^◌, ◌==◌, ◌&&◌, List, ◌++◌, Option, Some, None, length, drop, nat_lt, if◌then◌else◌}
+use Rattle.std.specs.Prelude.{ℕ, ◌≡◌, ◌<◌, ◌^◌, ◌==◌, ◌&&◌, Bool, List, ◌++◌, Option, Some, None, length, drop, bytes_eq, nat_lt, if◌then◌else◌}
 use Rattle.std.specs.List.{All}
 use Rattle.byteorder.specs.Endian.{little_bytes, little_number}
 use Rattle.sha2.specs.Sha256.{sha256}
@@ -43,6 +43,10 @@ pub record IsMeta (meta : Meta) : Type 0 where
 pub record IsFit (octets : List ℕ) (meta : Meta) : Type 0 where
   pub size : length octets ≡ meta.size
   pub digest : sha256 octets ≡ meta.digest
+
+-- whether an image fits metadata
+abbrev pub is_fit : List ℕ → Meta → Bool
+is_fit octets meta = length octets == meta.size && bytes_eq (sha256 octets) meta.digest
 
 -- a firmware image with its metadata
 pub record Image : Type 0 where

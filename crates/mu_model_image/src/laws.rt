@@ -1,6 +1,6 @@
 //! Laws of the definitions: functions that do nothing, whose contracts are proved.
 
-ghost use Rattle.mu_model_image.specs.Laws.{MetaIsReadBack, MetaHasOneSpelling, MetaThatIsReadIsInRange, FirmwareIdsDiffer, ImagesFit, BlocksAreTheImage, BlocksAreThoseWithin, BlockHasItsLength, BlockLengthsSumToTheSize, ChunksAreTheBlock, ChunksAreThoseWithin, ChunkHasItsLength, ChunkLengthsSumToTheLength, MadeImageHasItsSize, MadeImageHasItsOctets};
+ghost use Rattle.mu_model_image.specs.Laws.{MetaIsReadBack, MetaHasOneSpelling, MetaThatIsReadIsInRange, FirmwareIdsDiffer, ImagesFit, ImagesHaveMetadata, FitIsTested, BlocksAreTheImage, BlocksAreThoseWithin, BlockHasItsLength, BlockLengthsSumToTheSize, ChunksAreTheBlock, ChunksAreThoseWithin, ChunkHasItsLength, ChunkLengthsSumToTheLength, MadeImageHasItsSize, MadeImageHasItsOctets};
 
 /// Metadata and its octets are one to one.
 pub fn metadata()
@@ -14,9 +14,11 @@ pub fn firmware_ids()
     ensures { FirmwareIdsDiffer }
 {}
 
-/// An image fits its own metadata.
+/// An image fits its own metadata, which is in the ranges.
 pub fn images()
-    ensures { ImagesFit }
+    ensures fit { ImagesFit }
+    ensures metadata { ImagesHaveMetadata }
+    ensures tested { FitIsTested }
 {}
 
 /// Blocks tile the image.

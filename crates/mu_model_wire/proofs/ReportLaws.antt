@@ -1,18 +1,15 @@
 -- Sets, bit fields and what reports name.
-use Rattle.std.proofs.Common.{◌≡◌, ℕ, zero, suc, ◌-◌, ◌+◌, ◌*◌, ◌/◌, ◌%◌, ◌^◌, ◌≤◌, ◌<◌, ◌↔◌, Bool, true, false, IsTrue, cond, eqb, ltb, get_or, replicate, List, [], ◌∷◌, ◌++◌, length, take, drop, map, lit≤, if◌then◌else◌, refl, sym, ap, subst, ◌∙◌, arith, ◌⊎◌, inl, inr, add-one, length-append, length-drop}
+use Rattle.std.proofs.Common.{◌≡◌, ℕ, zero, suc, ◌+◌, ◌*◌, ◌/◌, ◌%◌, ◌^◌, ◌≤◌, ◌<◌, ◌↔◌, Bool, true, false, IsTrue, cond, eqb, get_or, List, [], ◌∷◌, ◌++◌, length, take, drop, lit≤, if◌then◌else◌, refl, sym, ap, subst, ◌∙◌, arith, inl, inr, add-one, length-append}
 use Rattle.std.specs.Prelude.{Contains}
-use Rattle.std.specs.List.{range_with_len, filter, All as AllOf}
+use Rattle.std.specs.List.{range_with_len, filter}
 use Rattle.std.specs.Int.{bit_at}
-use Rattle.arrayvec.specs.ArrayVec.{ArrayVec}
 use Rattle.std.proofs.Math.Nat.{pow-suc, pow-le-pow_right}
-use Rattle.std.proofs.lemmas.Bool.{cases_lt, cases_Bool, lt-ltb, le-ltb, eqb-true, eqb-false, false≢true}
+use Rattle.std.proofs.lemmas.Bool.{cases_lt, cases_Bool, eqb-true, false≢true}
 use Rattle.std.proofs.lemmas.List.{map-id, append-nil, get_or_past, get_or-take, get_or-drop, get_or-replicate, length-replicate, ext_get_or, length-take}
 use Rattle.std.proofs.lemmas.List.Elements.{All-from_get_or, Contains-get_or, Contains-append_left, Contains-push, Contains-push_cases}
 use Rattle.std.proofs.lemmas.List.FromFn.{filter_of_map_range_with_len_more, length-map-range_with_len, get_or-map-range_with_len}
-use Rattle.std.proofs.lemmas.Nat.Bits.{bit_at-zero, bit_at-suc, bit_at_lowest, bit_at-lt, same_from_bits_below}
-use Rattle.mu_model_wire.specs.Patterns.{list_spelling}
-use Rattle.mu_model_wire.specs.Reports.{has, members, no_number, every_number, field_bit, field_length, IsBitField, number_of_bits, bit_field, Reports, NamesASet, report_of, ReportsNameOneSet, ReportsOfASetAreInOrder, ReportOfASetNamesIt}
-use Rattle.mu_model_wire.specs.declared.reports.Report.{Report}
+use Rattle.std.proofs.lemmas.Nat.Bits.{bit_at-zero, bit_at-suc, bit_at_lowest}
+use Rattle.mu_model_wire.specs.Reports.{has, members, no_number, every_number, field_length, IsBitField, number_of_bits, bit_field, Reports, ReportsNameOneSet, ReportsOfASetAreInOrder, ReportOfASetNamesIt}
 use Rattle.mu_model_wire.specs.declared.reports.Report.TheVariants.{All, Nothing, Bits, List as Listed}
 
 pub same_sets : (a b : List Bool) → length a ≡ length b → ((k : ℕ) → has a k ≡ has b k) → a ≡ b
@@ -167,6 +164,15 @@ small_part set j =
     let small = number_small part in
     let most = pow-le-pow_right {n = 2} (lit≤ tt) short in
     omega arith
+
+pub field_small : (set : List Bool) (i : ℕ) → get_or (bit_field set) i 0 < 2 ^ 8
+field_small set i =
+    let f : ℕ → ℕ = λ j. number_of_bits (take 8 (drop (8 * j) set)) in
+    let n = field_length (length set) in
+    elim (cases_lt i n) [
+      | inl h ↦ omega (arith, get_or-map-range_with_len f 0 n i i 0 h (omega arith), small_part set i)
+      | inr h ↦ (let long = length-map-range_with_len f 0 n in omega (arith, get_or_past (bit_field set) i 0 (omega arith)))
+    ]
 
 -- ---- the laws
 

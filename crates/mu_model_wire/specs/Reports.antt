@@ -1,5 +1,5 @@
 -- Sets of numbers below a bound, and the set that a report of missing blocks or chunks names.
-use Rattle.std.specs.Prelude.{ℕ, ◌≡◌, ◌<◌, ◌≤◌, ◌↔◌, ◌+◌, ◌*◌, ◌/◌, ◌%◌, Bool, true, false, IsTrue, not, ◌||◌, ◌==◌, nat_lt, List, [], ◌∷◌, length, map, filter, take, drop, replicate, slice_index, slice_index_or, Contains, Option, MatchOption, Ok, if◌then◌else◌}
+use Rattle.std.specs.Prelude.{ℕ, ◌≡◌, ◌<◌, ◌≤◌, ◌↔◌, ◌+◌, ◌*◌, ◌/◌, ◌%◌, ◌^◌, Bool, true, false, IsTrue, not, ◌||◌, ◌==◌, nat_lt, List, [], ◌∷◌, length, map, filter, take, drop, replicate, slice_index, slice_index_or, Contains, Option, MatchOption, Ok, if◌then◌else◌}
 use Rattle.std.specs.List.{range_with_len, All as AllOf}
 use Rattle.std.specs.Int.{bit_at}
 use Rattle.mu_model_wire.specs.Patterns.{list_spelling, IsList, IsListFault}
@@ -103,6 +103,10 @@ ReportsOfASetAreInOrder = (report : Report) (set : List Bool) → Reports report
 -- the report of a set names it
 abbrev pub ReportOfASetNamesIt : Type 0
 ReportOfASetNamesIt = (set : List Bool) → Reports (report_of set) set
+
+-- the spelling of numbers is their list
+abbrev pub SpellingsAreLists : Type 0
+SpellingsAreLists = (numbers : List ℕ) → AllOf (λ n. n < 2 ^ 16) numbers → IsList (list_spelling numbers) numbers
 
 -- octets are the patterns of one list of numbers, or have one first bad pattern
 abbrev pub ListsAreRead : Type 0

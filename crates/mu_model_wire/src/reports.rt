@@ -1,6 +1,6 @@
 //! What names a set of missing blocks or chunks on the wire.
 
-ghost use Rattle.mu_model_wire.specs.Reports.{ReportsNameOneSet, ReportsOfASetAreInOrder, ReportOfASetNamesIt, ListsAreRead, ListsHaveNoFault, ListFaultsAreOne, GrammarReadsLists, GrammarRefusesLists};
+ghost use Rattle.mu_model_wire.specs.Reports.{ReportsNameOneSet, ReportsOfASetAreInOrder, ReportOfASetNamesIt, SpellingsAreLists, ListsAreRead, ListsHaveNoFault, ListFaultsAreOne, GrammarReadsLists, GrammarRefusesLists};
 
 use arrayvec::ArrayVec;
 
@@ -26,6 +26,7 @@ pub fn reports()
 
 /// Octets are one list of patterns or have one fault, as the grammar reads them.
 pub fn lists()
+    ensures spelled { SpellingsAreLists }
     ensures one_list { ListsAreRead }
     ensures no_fault { ListsHaveNoFault }
     ensures one_fault { ListFaultsAreOne }

@@ -85,9 +85,8 @@ impl Cells {
         ensures faults { self.new.faults ≡ min (self.old.faults + 1) (2 ^ 64 - 1) }
     {
         self.clock = self.clock.saturating_add(1);
-        self.faults = self.faults.saturating_add(1);
         tear(&mut self.octets, at, bytes, pattern);
-        Failed
+        self.fail()
     }
 
     // A call that fails and begins nothing.

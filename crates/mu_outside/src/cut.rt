@@ -39,8 +39,8 @@ impl CutFlash {
     pub fn power_on(&mut self)
         ensures { PoweredOn (⟦<CutFlash as Flash>⟧.seen self.old) (⟦<CutFlash as Flash>⟧.seen self.new) }
     {
-        self.armed = None;
         self.off = false;
+        self.disarm();
     }
 
     // Begins an operation: the armed one leaves its range by its pattern.
@@ -53,7 +53,7 @@ impl CutFlash {
         if self.off {
             return Err(self.cells.fail());
         }
-        match self.armed {
+        match self.armed.take() {
             None => {
                 self.cells.write(at, bytes);
                 Ok(())
@@ -67,7 +67,6 @@ impl CutFlash {
                     self.cells.write(at, bytes);
                     Ok(())
                 } else {
-                    self.armed = None;
                     self.off = true;
                     Err(self.cells.leave(at, bytes, armed.pattern))
                 }

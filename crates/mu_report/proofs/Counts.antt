@@ -1,17 +1,15 @@
 -- How many numbers are in a set, word by word.
-use Rattle.std.proofs.Common.{◌≡◌, ℕ, zero, suc, ◌-◌, ◌+◌, ◌*◌, ◌/◌, ◌%◌, ◌^◌, ◌≤◌, ◌<◌, Bool, true, false, cond, eqb, ltb, get_or, List, [], ◌∷◌, ◌++◌, length, map, refl, sym, ap, ◌∙◌, arith, ◌⊎◌, inl, inr, add-one, length-append}
+use Rattle.std.proofs.Common.{◌≡◌, ℕ, zero, suc, ◌-◌, ◌+◌, ◌*◌, ◌/◌, ◌%◌, ◌^◌, ◌≤◌, ◌<◌, Bool, true, false, cond, eqb, get_or, List, [], ◌∷◌, ◌++◌, length, refl, sym, ap, ◌∙◌, arith, add-one, length-append}
 use Rattle.std.specs.List.{range_with_len, filter}
-use Rattle.std.specs.Int.{bit_at}
 use lib.Count.{ones}
 use Rattle.std.proofs.Math.Nat.{pow-suc, mod-eq_of_lt}
-use Rattle.std.proofs.lemmas.Bool.{cases_lt, cases_Bool}
 use Rattle.std.proofs.lemmas.List.{map-id}
 use Rattle.std.proofs.lemmas.List.FromFn.{filter_of_map_range_with_len_more}
 use Rattle.std.proofs.lemmas.Nat.{ones_cat, shr_split, mod_below, pow_pos, div_below}
-use Rattle.std.proofs.lemmas.Nat.Bits.{bit_at_cat_low, bit_at-lt}
+use Rattle.std.proofs.lemmas.Nat.Bits.{bit_at_cat_low}
 use Rattle.mu_model_wire.specs.Reports.{has, members}
 use Rattle.mu_report.specs.Words.{bit, word_bit, set_of_words, AreWords, count_below}
-use Rattle.mu_report.proofs.Bits.{has-set, set-length, bit-word, no_word}
+use Rattle.mu_report.proofs.Bits.{has-set, set-length, bit-word}
 
 pub count-zero : (p : ℕ → Bool) → count_below p 0 ≡ 0
 unfolding count_below

@@ -1,7 +1,7 @@
 -- Words with the bits of the numbers below a bound.
-use Rattle.std.proofs.Common.{◌≡◌, ℕ, Some, ◌-◌, ◌+◌, ◌*◌, ◌/◌, ◌%◌, ◌^◌, ◌≤◌, ◌<◌, Bool, true, false, cond, eqb, ltb, not, ◌&&◌, ◌||◌, get_or, set, List, length, map, bit_and, bit_or, refl, sym, ap, ◌∙◌, arith, ◌⊎◌, inl, inr}
-use Rattle.std.specs.Int.{bit_at, bit_not, trailing_zeros, w64}
-use Rattle.std.proofs.lemmas.Bool.{cases_lt, lt-ltb, le-ltb, ltb-true, ltb-false, false≢true}
+use Rattle.std.proofs.Common.{◌≡◌, ℕ, Some, ◌-◌, ◌+◌, ◌*◌, ◌%◌, ◌^◌, ◌≤◌, ◌<◌, Bool, true, false, eqb, ltb, not, ◌&&◌, ◌||◌, get_or, set, List, length, bit_and, bit_or, refl, sym, ap, ◌∙◌, arith, inl, inr}
+use Rattle.std.specs.Int.{bit_not, trailing_zeros, w64}
+use Rattle.std.proofs.lemmas.Bool.{cases_lt, lt-ltb, le-ltb, ltb-false, false≢true}
 use Rattle.std.proofs.lemmas.List.{get_or-map, length-map}
 use Rattle.std.proofs.lemmas.List.FromFn.{length-map-range_with_len, get_or-map-range_with_len}
 use Rattle.std.proofs.lemmas.Nat.{one_shl}
@@ -182,3 +182,16 @@ not_found words index mask k below fits before none i low high =
           (sym (first_bit words index mask k (i - 64 * index) below fits (omega arith)) ∙ ap (λ (w : ℕ). bit w (i - 64 * index)) none ∙ ap (λ (n : ℕ). eqb n 1) (bit_at-zero (i - 64 * index)))
           (le-ltb (64 * index + (i - 64 * index)) k (omega arith))
     ]
+
+-- a word that has one that is k or more
+pub some_past : (words : List ℕ) (index mask k : ℕ) → AreBitsBelow k index mask → mask < 2 ^ 64
+    → (word : ℕ) → word ≡ bit_and (get_or words index 0) (bit_not w64 mask) → 0 < word → word < 2 ^ 64
+    → ((i : ℕ) → k ≤ i → word_bit words i ≡ false) → ⊥
+some_past words index mask k below fits word is some small none =
+    let zeros = bit_at-trailing_zeros w64 word some small in
+    let j = trailing_zeros w64 word in
+    let here : bit word j ≡ true = ap (λ (n : ℕ). eqb n 1) zeros.1 in
+    let split = some_first (word_bit words (64 * index + j)) (ltb (64 * index + j) k)
+    (sym (first_bit words index mask k j below fits zeros.0) ∙ ap (λ (w : ℕ). bit w j) (sym is) ∙ here) in
+    let least : k ≤ 64 * index + j = ltb-false (64 * index + j) k split.1 in
+    false≢true (sym (none (64 * index + j) least) ∙ split.0)

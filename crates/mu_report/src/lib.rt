@@ -2,8 +2,12 @@
 #![tactic(auto)]
 
 mod list;
+mod report;
 mod set;
+#[cfg(test)]
+mod tests;
 
 pub use list::{ListFault, decode_list, encode_list};
 pub use mu_model_wire::reports::Report;
+pub use report::{read_report, report_of};
 pub use set::NumberSet;

@@ -109,3 +109,82 @@ lines_in_front n front rest done is fits = by (leb (length rest) (n - length fro
 -- the lines that LF has ended, behind whole lines
 pub ended_front : (front part : List ℕ) (done : List (List ℕ)) → pieces line_feed front ≡ done ++ [] ∷ [] → IsPart part → ended_lines (front ++ part) ≡ done
 ended_front front part done is h = through_front without_last (λ p q ps. refl) front part done is ∙ (ap (λ ps. done ++ without_last ps) (pieces_part part h) ∙ append-nil done)
+
+-- ---- the lines within so many octets, by what comes first
+
+pub lines_in_end : (n : ℕ) → lines_in n [] ≡ []
+lines_in_end n = rw (le-leb 0 n (omega arith)) refl
+
+pub lines_in_line : (n : ℕ) (line rest : List ℕ) → IsPart line → length line + 1 ≤ n → lines_in n (line ++ line_feed ∷ rest) ≡ line ∷ lines_in (n - (length line + 1)) rest
+lines_in_line n line rest part fits =
+    let len : length (line ++ line_feed ∷ []) ≡ length line + 1 = length-append line (line_feed ∷ []) in
+    ap (lines_in n) (sym (append_assoc line (line_feed ∷ []) rest))
+    ∙ (lines_in_front n (line ++ line_feed ∷ []) rest (line ∷ []) (pieces_ended line [] part) (omega (arith, len)) ∙ ap (λ k. line ∷ lines_in (n - k) rest) len)
+
+one_line : (line : List ℕ) → line ≢ [] → without_empty_last (line ∷ []) ≡ line ∷ []
+one_line [] some = absurd (some refl)
+one_line (octet ∷ line) some = rw (ne_eqb (length (octet ∷ line)) 0 (λ (none : length (octet ∷ line) ≡ 0). omega arith)) refl
+
+pub lines_in_last : (n : ℕ) (line : List ℕ) → IsPart line → line ≢ [] → length line ≤ n → lines_in n line ≡ line ∷ []
+lines_in_last n line part some fits = rw (le-leb (length line) n fits) (ap without_empty_last (pieces_part line part) ∙ one_line line some)
+
+-- a first line that is longer than these octets
+pub record BeginsLong (octets : List ℕ) (lines : List (List ℕ)) : Type 0 where
+  pub rest : List ℕ
+  pub later : List (List ℕ)
+  pub is : lines ≡ (octets ++ rest) ∷ later
+
+long_kept : (octets rest : List ℕ) (others : List (List ℕ)) → most_in_line < length octets → BeginsLong octets (without_empty_last ((octets ++ rest) ∷ others)) × BeginsLong octets (without_short_last ((octets ++ rest) ∷ others))
+long_kept octets rest [] long =
+    let len = length-append octets rest in
+    let some : eqb (length (octets ++ rest)) 0 ≡ false = ne_eqb _ 0 (λ (none : length (octets ++ rest) ≡ 0). omega arith) in
+    let past : ltb most_in_line (length (octets ++ rest)) ≡ true = lt-ltb _ _ (omega (arith, len, long)) in
+    (record { rest = rest; later = []; is = rw some refl }, record { rest = rest; later = []; is = rw past refl })
+long_kept octets rest (p ∷ others) long =
+    (record { rest = rest; later = without_empty_last (p ∷ others); is = refl }, record { rest = rest; later = without_short_last (p ∷ others); is = refl })
+
+pub lines_in_long : (n : ℕ) (octets rest : List ℕ) → IsPart octets → most_in_line < length octets → length octets ≤ n → BeginsLong octets (lines_in n (octets ++ rest))
+lines_in_long n octets rest part long fits = by (leb (length (octets ++ rest)) n) refl
+  where
+    glued : (more : List ℕ) → (first : List ℕ) × (others : List (List ℕ)) × (pieces line_feed (octets ++ more) ≡ (octets ++ first) ∷ others)
+    glued more =
+        let f = first_piece more in
+        (f.first, f.others, pieces_at octets more [] octets f.first f.others (pieces_part octets part) f.is)
+
+    by : (b : Bool) → leb (length (octets ++ rest)) n ≡ b → BeginsLong octets (lines_in n (octets ++ rest))
+    by true e =
+        let g = glued rest in
+        rw e (subst (λ ps. BeginsLong octets (without_empty_last ps)) (sym g.2) (long_kept octets g.0 g.1 long).0)
+    by false e =
+        let g = glued (take (n - length octets) rest) in
+        rw e (subst (λ ps. BeginsLong octets (without_short_last ps)) (sym (ap (pieces line_feed) (take_front n octets rest fits) ∙ g.2)) (long_kept octets g.0 g.1 long).1)
+
+-- a part of a line that fills them, and more behind it
+pub lines_in_part : (n : ℕ) (part rest : List ℕ) → IsPart part → length part ≤ most_in_line → length part ≡ n → rest ≢ [] → lines_in n (part ++ rest) ≡ []
+lines_in_part n part [] is short full more = absurd (more refl)
+lines_in_part n part (octet ∷ rest) is short full more =
+    let len = length-append part (octet ∷ rest) in
+    let past : leb (length (part ++ octet ∷ rest)) n ≡ false = lt-leb _ _ (omega (arith, len, full)) in
+    let within : ltb most_in_line (length part) ≡ false = le-ltb _ _ short in
+    rw past (ap (λ octets. without_short_last (pieces line_feed octets)) (take_at part (octet ∷ rest) n full) ∙ (ap without_short_last (pieces_part part is) ∙ (rw within refl)))
+
+-- where octets are left, a line is, or the octets are passed
+pub lines_in_more : (n : ℕ) (rest : List ℕ) → rest ≢ [] → (n < length rest) ⊎ (0 < length (lines_in n rest))
+lines_in_more n [] more = absurd (more refl)
+lines_in_more n (octet ∷ rest) more = by (leb (length (octet ∷ rest)) n) refl
+  where
+    some : (ps : List (List ℕ)) (p : List ℕ) (others : List (List ℕ)) → ps ≡ p ∷ others → 0 < length (without_empty_last ([] ∷ ps))
+    some ps p others is = rw is (omega arith)
+
+    onto : (ps : List (List ℕ)) → 0 < length (without_empty_last (onto_first octet ps))
+    onto [] = omega arith
+    onto (p ∷ []) = rw (ne_eqb (length (octet ∷ p)) 0 (λ (none : length (octet ∷ p) ≡ 0). omega arith)) (omega arith)
+    onto (p ∷ q ∷ ps) = omega arith
+
+    first : (c : Bool) → eqb octet line_feed ≡ c → 0 < length (lines_of (octet ∷ rest))
+    first true e = let f = first_piece rest in rw e (some (pieces line_feed rest) f.first f.others f.is)
+    first false e = rw e (onto (pieces line_feed rest))
+
+    by : (b : Bool) → leb (length (octet ∷ rest)) n ≡ b → (n < length (octet ∷ rest)) ⊎ (0 < length (lines_in n (octet ∷ rest)))
+    by true e = inr (rw e (first (eqb octet line_feed) refl))
+    by false e = inl (omega (arith, leb-false _ _ e))

@@ -4,3 +4,4 @@ pub mod Events
 pub mod WordLists
 pub mod Cuts
 pub mod Places
+pub mod Replaying

@@ -50,3 +50,32 @@ drop-whole xs d = take_all (length xs - d) (drop d xs) (omega (arith, length-dro
 
 pub wrote_more : (o m n : Option (List ℕ)) (xs : List ℕ) (d k : ℕ) → Wrote o m (take d xs) → WriteTakes m n (take (length xs - d) (drop d xs)) k → Wrote o n (take (d + k) xs)
 wrote_more o m n xs d k first more = wrote_on o m n xs d k first (subst (λ rest. WriteTakes m n rest k) (drop-whole xs d) more)
+
+-- two facts about one call
+pub told_both : (o n : Option (List ℕ)) (P Q : List ℕ → List ℕ → Type 0) → WhereTold o n P → WhereTold o n Q → WhereTold o n (λ before after. P before after × Q before after)
+told_both o None P Q p q = tt
+told_both o (Some after) P Q p q =
+    let same : Some q.0 ≡ Some p.0 = sym q.1 ∙ p.1 in
+    let one : q.0 ≡ p.0 = cc in
+    (p.0, p.1, (p.2, subst (λ before. Q before after) one q.2))
+
+-- what a source and a sink tell, since a beginning
+abbrev pub Both : (S0 S1 K0 K1 : Option (List ℕ)) → (List ℕ → List ℕ → List ℕ → List ℕ → Type 0) → Type 0
+Both S0 S1 K0 K1 X = WhereTold S0 S1 (λ held left. WhereTold K0 K1 (X held left))
+
+pub both_map : (S0 S1 K0 K1 : Option (List ℕ)) (X Y : List ℕ → List ℕ → List ℕ → List ℕ → Type 0) → ((held left before after : List ℕ) → X held left before after → Y held left before after)
+    → Both S0 S1 K0 K1 X → Both S0 S1 K0 K1 Y
+both_map S0 S1 K0 K1 X Y f = where_told S0 S1 _ _ (λ held left x. where_told K0 K1 (X held left) (Y held left) (f held left) x)
+
+-- a call on the source
+pub both_source : (S0 S1 S2 K0 K1 : Option (List ℕ)) (X Y : List ℕ → List ℕ → List ℕ → List ℕ → Type 0) (P : List ℕ → List ℕ → Type 0)
+    → ((held left left' before after : List ℕ) → X held left before after → P left left' → Y held left' before after)
+    → Both S0 S1 K0 K1 X → WhereTold S1 S2 P → Both S0 S2 K0 K1 Y
+both_source S0 S1 S2 K0 K1 X Y P f = told_then S0 S1 S2 (λ held left. WhereTold K0 K1 (X held left)) P (λ held left'. WhereTold K0 K1 (Y held left'))
+    (λ held left left' x p. where_told K0 K1 (X held left) (Y held left') (λ before after y. f held left left' before after y p) x)
+
+-- a call on the sink
+pub both_sink : (S0 S1 K0 K1 K2 : Option (List ℕ)) (X Y : List ℕ → List ℕ → List ℕ → List ℕ → Type 0) (Q : List ℕ → List ℕ → Type 0)
+    → ((held left before after after' : List ℕ) → X held left before after → Q after after' → Y held left before after')
+    → Both S0 S1 K0 K1 X → WhereTold K1 K2 Q → Both S0 S1 K0 K2 Y
+both_sink S0 S1 K0 K1 K2 X Y Q f x q = where_told S0 S1 _ _ (λ held left y. told_then K0 K1 K2 (X held left) Q (Y held left) (f held left) y q) x

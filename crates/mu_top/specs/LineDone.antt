@@ -1,9 +1,12 @@
 -- What the code does with a line of a script.
-use Rattle.std.specs.Prelude.{◌≡◌, ℕ, List, [], ◌++◌, Result, Ok, Err}
-use Rattle.mu_model_script.specs.Texts.{line_word, bad_word}
+use Rattle.std.specs.Prelude.{◌≡◌, ℕ, List, [], ◌++◌, Option}
+use Rattle.mu_model_script.specs.Texts.{line_word, bad_word, refused_text}
 use Rattle.mu_model_world.specs.World.{World}
 use Rattle.mu_model_world.specs.Judged.{judged, Refused}
 use Rattle.mu_model_world.specs.Run.{Step}
+use Rattle.mu_top.specs.declared.status.Status.{Status}
+use Rattle.mu_top.specs.declared.status.Status.TheVariants.{NoMemory}
+use Rattle.mu_top.specs.Replay.{Told}
 use Rattle.mu_top.specs.declared.line.Why.{Why}
 use Rattle.mu_top.specs.declared.line.Why.TheVariants.{Line, World as InWorld}
 use Rattle.mu_top.specs.declared.line.LineStop.{LineStop}
@@ -29,3 +32,8 @@ pub record Does (old : World) (line before after : List ℕ) (new : World) : Typ
   pub text : List ℕ
   pub step : Step old line text new
   pub printed : after ≡ before ++ text
+
+-- what is written at a line that wasn't done, by the status
+abbrev pub EndsAt : (sink sink' : Option (List ℕ)) (number : ℕ) → LineStop → Status → Type 0
+EndsAt sink sink' number Memory status = (status ≡ NoMemory) × (sink' ≡ sink)
+EndsAt sink sink' number (IsRefused place why) status = Told sink sink' (refused_text number place (word_of why)) status

@@ -4,6 +4,7 @@ use Rattle.mu_model_script.specs.Limits.{lines_done, ended_lines, IsPast}
 use Rattle.mu_model_script.specs.Texts.{refused_text}
 use Rattle.mu_model_world.specs.Run.{Prints, Refuses}
 use Rattle.mu_top.specs.Reading.{WhereTold}
+use Rattle.mu_top.specs.Status.{number_of}
 use Rattle.mu_top.specs.declared.status.Status.{Status}
 use Rattle.mu_top.specs.declared.status.Status.TheVariants.{Done, SourceFault, SinkFault, Refused, NoMemory, TooLong}
 
@@ -60,3 +61,14 @@ ReplayEnds held left written _ = ⊥
 abbrev pub Replays : (source source' sink sink' : Option (List ℕ)) → Status → Type 0
 Replays source source' sink sink' status =
     WhereTold source source' (λ held left. WhereTold sink sink' (λ before after. (written : List ℕ) × (after ≡ before ++ written) × ReplayEnds held left written status))
+
+-- the same for the number of the status
+abbrev pub Replayed : (source source' sink sink' : Option (List ℕ)) → ℕ → Type 0
+Replayed source source' sink sink' number = (status : Status) × (number ≡ number_of status) × Replays source source' sink sink' status
+
+-- what is written of a refusal's line, by the status
+abbrev pub Told : (sink sink' : Option (List ℕ)) (text : List ℕ) → Status → Type 0
+Told sink sink' text Refused = WhereTold sink sink' (λ before after. after ≡ before ++ text)
+Told sink sink' text SinkFault = WhereTold sink sink' (λ before after. (count : ℕ) × (after ≡ before ++ take count text))
+Told sink sink' text NoMemory = WhereTold sink sink' (λ before after. after ≡ before)
+Told sink sink' text _ = ⊥

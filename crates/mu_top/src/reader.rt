@@ -186,6 +186,7 @@ impl LineReader {
 
     /// Reads the next line.
     pub(crate) fn next<S: Source>(&mut self, source: &mut S) -> Result<Next, ReadStop>
+        ensures short { length self.new.line ≤ 4096 }
         ensures next { WhereTold (S.left source.old) (S.left source.new) (λ before after. NextLine self.old self.new before after result) }
         ensures cause { IsErrOf result ReadStop.Source → Rose (S.faults source.old) (S.faults source.new) }
         ensures later { S.faults source.old ≤ S.faults source.new }

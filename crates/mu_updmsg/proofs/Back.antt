@@ -18,7 +18,7 @@ lent_of name shown = record { ref_ptr = (0, 0); now = unwrap_or (octets_of name 
 abbrev entry_back : List Shown → Entry
 entry_back shown = record { id = lent_of id shown; uri = lent_of uri shown }
 
-abbrev back : Message → UpdMsg
+abbrev pub back : Message → UpdMsg
 back m =
     cond (eqb m.opcode 0x8308) (InformationGet (value_of first m.fields) (value_of limit m.fields))
     (cond (eqb m.opcode 0x8309) (InformationStatus (value_of count m.fields) (value_of first m.fields) (record { items = map entry_back m.entries }))
@@ -34,7 +34,7 @@ same_status : (s s' p p' : ℕ) (t t' a a' b b' i i' x x' : Option ℕ) → s �
     → UpdateStatus s p t a b i x ≡ UpdateStatus s' p' t' a' b' i' x'
 same_status s s' p p' t t' a a' b b' i i' x x' es ep et ea eb ei ex = rw (es, ep, et, ea, eb, ei, ex) refl
 
-back_view : (m : UpdMsg) → back (view m) ≡ content m
+pub back_view : (m : UpdMsg) → back (view m) ≡ content m
 back_view (InformationGet f l) = refl
 back_view (InformationStatus c f es) = ap (λ (items : List Entry). InformationStatus c f (record { items = items })) (map-map entry_back entry_shown es.items)
 back_view (MetadataCheck i m) = refl

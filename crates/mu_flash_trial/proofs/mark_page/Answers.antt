@@ -4,7 +4,8 @@ use Rattle.mu_model_flash.specs.Run.{exact}
 use Rattle.mu_model_flash.proofs.Compose.{broke_more}
 use Rattle.mu_model_flash.proofs.Readings.{one_operation, one_operation_ran, one_operation_broke, broke_runs}
 use Rattle.mu_flash_trial.specs.Trial.{with_erased, with_first, with_both}
-use Rattle.mu_flash_trial.proofs.TrialLemmas.{marks, promised, cuts, reads_one, erased_one, marked_one}
+use Rattle.mu_model_flash.proofs.RangeLemmas.{reads_one}
+use Rattle.mu_flash_trial.proofs.TrialLemmas.{marks, promised, cuts, erased_one, marked_one}
 use Rattle.mu_flash_trial.proofs.mark_page.Goals as goal
 
 pub returns-in_err-erase-clause-marks : goal.returns-in_err-erase-clause-marks

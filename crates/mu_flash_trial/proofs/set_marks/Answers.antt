@@ -3,7 +3,8 @@ use Rattle.mu_model_flash.specs.Bits.{written}
 use Rattle.mu_model_flash.specs.Run.{exact}
 use Rattle.mu_model_flash.proofs.Compose.{broke_more}
 use Rattle.mu_model_flash.proofs.Readings.{one_operation, broke_runs}
-use Rattle.mu_flash_trial.proofs.TrialLemmas.{reads_one, two_blank_first, two_blank_second}
+use Rattle.mu_model_flash.proofs.RangeLemmas.{reads_one}
+use Rattle.mu_flash_trial.proofs.TrialLemmas.{two_blank_first, two_blank_second}
 use Rattle.mu_flash_trial.proofs.set_marks.Goals as goal
 
 pub program-requires-clause-is_blank : goal.program-requires-clause-is_blank

@@ -1,6 +1,6 @@
-use Rattle.std.proofs.Common.{◌≡◌, ◌<◌, ◌≤◌, ◌+◌, ◌*◌, ◌^◌, ◌∙◌, ℕ, get_or, sym, ap, arith}
+use Rattle.std.proofs.Common.{◌+◌, ◌*◌, ◌∙◌, ℕ, get_or, sym, ap, arith}
 use lib.Count.{ones}
-use Rattle.mu_report.specs.Words.{word_bit, count_below}
+use Rattle.mu_report.specs.Words.{word_bit}
 use Rattle.mu_report.proofs.Counts.{count-zero, word_more, count_le}
 use Rattle.mu_report.proofs.set.ones.Goals as goal
 

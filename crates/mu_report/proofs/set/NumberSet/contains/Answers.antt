@@ -1,7 +1,6 @@
-use Rattle.std.proofs.Common.{◌≡◌, ℕ, sym, ap, ◌∙◌, Bool, List}
+use Rattle.std.proofs.Common.{sym, ap, ◌∙◌, Bool, List}
 use Rattle.std.proofs.lemmas.Bool.{le-ltb}
 use Rattle.mu_model_wire.specs.Reports.{has}
-use Rattle.mu_report.specs.Words.{word_bit}
 use Rattle.mu_report.proofs.Bits.{has-set, tested}
 use Rattle.mu_report.proofs.set.NumberSet.contains.Goals as goal
 

@@ -1,6 +1,6 @@
-use Rattle.std.proofs.Common.{◌≡◌, ◌≤◌, ◌*◌, ◌∙◌, ℕ, List, Bool, length, ap, arith}
+use Rattle.std.proofs.Common.{◌≡◌, ◌≤◌, ◌*◌, ◌∙◌, List, Bool, length, ap, arith}
 use Rattle.mu_model_wire.specs.Reports.{members}
-use Rattle.mu_report.specs.Words.{word_bit, count_below}
+use Rattle.mu_report.proofs.Bits.{bound_is}
 use Rattle.mu_report.proofs.Counts.{set_count, members_le}
 use Rattle.mu_report.proofs.set.NumberSet.count.Goals as goal
 
@@ -16,3 +16,8 @@ returns-clause-count c = counted c
 
 pub returns-clause-most : goal.returns-clause-most
 returns-clause-most c = omega (arith, counted c, members_le c.args.self.now)
+
+pub returns-clause-small : goal.returns-clause-small
+returns-clause-small c =
+    let most = c.self.invariant.most in
+    omega (arith, counted c, members_le c.args.self.now, bound_is c.self.inside.words c.self.inside.bound c.args.self.now c.self.view_is)

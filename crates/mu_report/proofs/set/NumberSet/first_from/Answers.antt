@@ -1,4 +1,4 @@
-use Rattle.std.proofs.Common.{◌≡◌, ◌<◌, ◌≤◌, ◌+◌, ◌*◌, ◌^◌, ◌∙◌, ℕ, List, Bool, Some, false, bit_and, get_or, length, refl, sym, ap, subst, arith, inl, inr}
+use Rattle.std.proofs.Common.{◌≡◌, ◌<◌, ◌+◌, ◌*◌, ◌^◌, ◌∙◌, ℕ, List, Bool, Some, false, bit_and, get_or, refl, sym, ap, subst, arith, inl, inr}
 use Rattle.std.specs.Int.{bit_not, trailing_zeros, w64}
 use Rattle.std.proofs.lemmas.Bool.{cases_lt}
 use Rattle.std.proofs.lemmas.Nat.{and_le_r}
@@ -43,3 +43,11 @@ returns-clause-first c i low =
       | inr past ↦ no_word c.self.inside.words i (omega arith)
     ] in
     ap (λ (set : List Bool). has set i) (sym c.self.view_is) ∙ has-set c.self.inside.words c.self.inside.bound i c.self.invariant ∙ clear
+
+pub returns-then-word-ne0-clause-small : goal.returns-then-word-ne0-clause-small
+unfolding number
+returns-then-word-ne0-clause-small c =
+    let most = c.self.invariant.most in
+    let inside : number c < c.self.inside.bound = (finds c).1 in
+    let small : number c < 2048 = omega arith in
+    small

@@ -1,6 +1,6 @@
-use Rattle.std.proofs.Common.{◌≡◌, ◌<◌, ◌*◌, ℕ, List, Bool, length, length-set, get_or, refl, rules, ◌^◌, sym, ap, subst, ◌∙◌, arith}
+use Rattle.std.proofs.Common.{◌≡◌, ◌<◌, ◌*◌, ℕ, List, length-set, get_or, refl, rules, ◌^◌, ap, ◌∙◌, arith}
 use Rattle.mu_model_wire.specs.Reports.{complement}
-use Rattle.mu_report.specs.Words.{AreWords, set_of_words, word_bit}
+use Rattle.mu_report.specs.Words.{word_bit}
 use Rattle.mu_report.proofs.Masks.{out, missing_step, missing_words, missing_set}
 use Rattle.mu_report.proofs.set.NumberSet.missing.Goals as goal
 

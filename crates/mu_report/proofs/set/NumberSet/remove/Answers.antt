@@ -1,4 +1,4 @@
-use Rattle.std.proofs.Common.{◌<◌, sym, ap, ◌∙◌, false, arith, Bool, List, set}
+use Rattle.std.proofs.Common.{sym, ap, ◌∙◌, false, Bool, List, set}
 use Rattle.mu_report.proofs.Bits.{remove_words, remove_set, remove_past}
 use Rattle.mu_report.proofs.set.NumberSet.remove.Goals as goal
 

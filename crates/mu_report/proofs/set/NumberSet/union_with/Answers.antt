@@ -1,4 +1,4 @@
-use Rattle.std.proofs.Common.{◌≡◌, ℕ, List, Bool, length, length-set, refl, sym, ap, subst, ◌∙◌, arith}
+use Rattle.std.proofs.Common.{◌≡◌, ℕ, List, Bool, length-set, refl, sym, ap, subst, ◌∙◌, arith}
 use Rattle.mu_model_wire.specs.Reports.{union}
 use Rattle.mu_report.specs.Words.{AreWords, set_of_words}
 use Rattle.mu_report.proofs.Bits.{bound_is}

@@ -1,0 +1,15 @@
+//! Control pages, slots and marks on a flash: what a cut of the power leaves of them.
+#![tactic(auto)]
+
+mod code;
+mod mark;
+mod page;
+mod slot;
+
+pub use mark::{Mark, read_mark, write_mark};
+pub use mu_outside::Failed;
+pub use page::{erase_page, read_page, write_page};
+pub use slot::{read_slot, write_slot};
+
+#[cfg(test)]
+mod tests;

@@ -1,0 +1,5 @@
+use Rattle.mu_distmsg.proofs.Back.{tells_all}
+use Rattle.mu_distmsg.proofs.laws.view_tells_all.Goals as goal
+
+pub returns : goal.returns
+returns c = tells_all

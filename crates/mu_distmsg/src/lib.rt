@@ -1,0 +1,15 @@
+//! The messages of the Firmware Distribution model, read from a payload and written into one.
+#![tactic(auto)]
+
+pub mod laws;
+mod message;
+mod ranges;
+mod reading;
+#[cfg(test)]
+mod tests;
+mod writing;
+
+pub use message::{DistMsg, ReceiverRow};
+pub use ranges::in_range;
+pub use reading::read;
+pub use writing::write;

@@ -1,0 +1,4 @@
+pub mod CodeBits
+pub mod CodeLemmas
+pub mod PageLemmas
+pub mod SlotLemmas

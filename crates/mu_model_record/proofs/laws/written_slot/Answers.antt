@@ -1,0 +1,8 @@
+use Rattle.mu_model_record.proofs.SlotLemmas.{slot_word, slot_safe}
+use Rattle.mu_model_record.proofs.laws.written_slot.Goals as goal
+
+pub returns-clause-its_word : goal.returns-clause-its_word
+returns-clause-its_word c old new k octets many small can changes word is = slot_word old new k octets small can changes word is
+
+pub returns-clause-safe : goal.returns-clause-safe
+returns-clause-safe c old new k octets many small safe can changes = slot_safe old new k octets small can changes safe

@@ -1,0 +1,4 @@
+pub mod Code
+pub mod Page
+pub mod Turns
+pub mod Laws
