@@ -5,7 +5,7 @@ use Rattle.std.proofs.lemmas.Bool.Decides.{nat_tests}
 use Rattle.std.proofs.lemmas.Slice.Eq.{bytes_eq-Decides}
 use Rattle.sha2.specs.Sha256.{sha256}
 use Rattle.mu_model_image.specs.declared.Meta.{Meta}
-use Rattle.mu_model_image.specs.Meta.{Image, IsFit, meta_from}
+use Rattle.mu_model_image.specs.Meta.{Image, IsFit, is_fit, meta_from}
 use Rattle.mu_model_node.specs.Slots.{Slots, is_full, joined}
 use Rattle.mu_model_node.specs.BlobMessages.{Parameters}
 use Rattle.mu_model_node.specs.UpdateMessages.{UpdateStart, UpdateRequest, InformationGet, MetadataCheck, UpdateGet, StartUpdate, UpdateCancel, UpdateApply}
@@ -16,7 +16,7 @@ use Rattle.mu_model_node.specs.FlashWork.{Untouched, Recorded}
 use Rattle.mu_model_node.specs.NodeState.{Stored, Filling, Verified, Refused, Applied, Job, NodeDurable, NodeState, UpdatePhase, Idle, TransferError, TransferActive, Verifying, Succeeded, Failed, Applying, update_number, link_phase, filling_phase, stored_phase, job_phase, update_phase, serving_in, server_of, is_addressee}
 use Rattle.mu_model_node.specs.NodeOutcome.{Outcome, job_changed, served}
 use Rattle.mu_model_node.specs.UpdateTable.{same_start, new_job, check, check_image, takes_checked, takes, on_update_start, on_update_cancel, on_update_apply, on_update}
-use Rattle.mu_model_node.specs.TimeTable.{fits, verified, image_of_job, on_time}
+use Rattle.mu_model_node.specs.TimeTable.{verified, image_of_job, on_time}
 use Rattle.mu_model_node.specs.Events.{NodeEvent, PacketComes, TimeComes, at_moment, on_request, on_packet, on_event, node_step}
 use Rattle.mu_model_node.specs.Log.{Took, is_new, same_job, took}
 use Rattle.mu_model_node.specs.Safe.{InOrder, none, here}
@@ -195,7 +195,7 @@ serves s o h = change_moves s o o.change refl s.durable.job refl h
 
 -- ---- time
 
-pub fits_true : (octets : List ℕ) (meta : Meta) → fits octets meta ≡ true → IsFit octets meta
+pub fits_true : (octets : List ℕ) (meta : Meta) → is_fit octets meta ≡ true → IsFit octets meta
 fits_true octets meta e = record {
   size = grind (arith, nat_tests);
   digest = grind (arith, nat_tests, bytes_eq-Decides (sha256 octets) meta.digest);
@@ -207,7 +207,7 @@ seals s j false is e three f = record { move = Refuses j refl is e refl refl }
 
 times : (s : NodeState) (phase : UpdatePhase) → update_phase s ≡ phase → PhaseOf s.durable.job phase → Moves ByTime s (on_time s phase)
 times s (Applying j) is h = record { move = Activates j refl h.0 h.1 refl refl }
-times s (Verifying j) is h = seals s j (fits (joined j.held) j.meta) h.0 h.1 (ap update_number is) (fits_true (joined j.held) j.meta)
+times s (Verifying j) is h = seals s j (is_fit (joined j.held) j.meta) h.0 h.1 (ap update_number is) (fits_true (joined j.held) j.meta)
 times s phase is h = serves s (on_server_time (server_of s) (serving_in phase)) (subst (MayWrite (server_of s).serving) (sym (time_same (server_of s) (serving_in phase))) tt)
 
 -- ---- all

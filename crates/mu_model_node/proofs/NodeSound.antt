@@ -5,7 +5,7 @@ use Rattle.std.proofs.lemmas.List.{length-replicate, length-set}
 use Rattle.std.proofs.lemmas.List.Sums.{sum_by-cons}
 use Rattle.std.proofs.lemmas.Bool.Decides.{nat_tests}
 use Rattle.mu_model_image.specs.declared.Meta.{Meta}
-use Rattle.mu_model_image.specs.Meta.{Image, IsFit, meta_of, meta_from}
+use Rattle.mu_model_image.specs.Meta.{Image, IsFit, is_fit, meta_of, meta_from}
 use Rattle.mu_model_image.specs.Pieces.{block_count, block_length}
 use Rattle.mu_model_node.specs.Slots.{Slots, empty, at, put, is_full, joined, held_count}
 use Rattle.mu_model_node.specs.BlobMessages.{Parameters}
@@ -17,7 +17,7 @@ use Rattle.mu_model_node.specs.FlashWork.{FlashWork, Untouched, Recorded, Begun,
 use Rattle.mu_model_node.specs.NodeState.{Stored, Filling, Verified, Refused, Applied, Job, NodeDurable, NodeState, UpdatePhase, Idle, TransferError, TransferActive, Verifying, Succeeded, Failed, Applying, link_phase, filling_phase, stored_phase, job_phase, update_phase, transfer_of, serving_in, server_of}
 use Rattle.mu_model_node.specs.NodeOutcome.{Outcome, with_session, recorded, with_job, job_after, work_of, served}
 use Rattle.mu_model_node.specs.UpdateTable.{same_start, new_job, check, check_image, takes_checked, takes, without_job, on_update_start, on_update_cancel, on_update_apply, on_update}
-use Rattle.mu_model_node.specs.TimeTable.{fits, verified, activated, image_of_job, on_time}
+use Rattle.mu_model_node.specs.TimeTable.{verified, activated, image_of_job, on_time}
 use Rattle.mu_model_node.specs.Events.{on_request}
 use Rattle.mu_model_node.specs.Sound.{IsActiveImage, AreBlocks, HasBlocks, IsWhole, StoredIs, IsNewer, IsJob, HasJob, IsNodeDurable, RequestFits, IsCurrent, HasCurrent, IsNodeState}
 use Rattle.mu_model_node.proofs.Places.{empty_lengths, put_lengths, length_put, not_full, block_is_short, few_pages}
@@ -411,7 +411,7 @@ activates s j h is e =
 
 times : (s : NodeState) (phase : UpdatePhase) → PhaseOf s.durable.job phase → WholeIn phase → IsNodeState s → SoundAfter s (on_time s phase)
 times s (Applying j) is whole h = activates s j h is.0 is.1
-times s (Verifying j) is whole h = seals s j (fits (joined j.held) j.meta) h is.0 whole (fits_true (joined j.held) j.meta)
+times s (Verifying j) is whole h = seals s j (is_fit (joined j.held) j.meta) h is.0 whole (fits_true (joined j.held) j.meta)
 times s phase is whole h = serves s (on_server_time (server_of s) (serving_in phase)) h (time_good (server_of s) (serving_in phase) (current_in s.durable.job s.session.link s.session.current h.current))
 
 -- EACH TIME EVENT KEEPS A STATE SOUND

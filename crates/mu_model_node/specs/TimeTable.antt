@@ -1,18 +1,12 @@
 -- What a time event does at a node, by the update phase (this profile).
-use Rattle.std.specs.Prelude.{ℕ, ◌==◌, ◌&&◌, Bool, true, false, List, [], None, set, length, bytes_eq}
-use Rattle.sha2.specs.Sha256.{sha256}
-use Rattle.mu_model_image.specs.declared.Meta.{Meta}
-use Rattle.mu_model_image.specs.Meta.{Image}
+use Rattle.std.specs.Prelude.{Bool, true, false, [], None, set}
+use Rattle.mu_model_image.specs.Meta.{Image, is_fit}
 use Rattle.mu_model_node.specs.Slots.{joined}
 use Rattle.mu_model_node.specs.BlobServer.{unlinked}
 use Rattle.mu_model_node.specs.BlobTable.{on_server_time}
 use Rattle.mu_model_node.specs.FlashWork.{Recorded}
 use Rattle.mu_model_node.specs.NodeState.{Verified, Refused, Job, NodeState, UpdatePhase, Applying, Verifying, serving_in, server_of}
 use Rattle.mu_model_node.specs.NodeOutcome.{Outcome, with_session, recorded, with_job, served}
-
--- whether octets fit metadata: IsFit as a test
-abbrev pub fits : List ℕ → Meta → Bool
-fits octets meta = (length octets == meta.size) && bytes_eq (sha256 octets) meta.digest
 
 -- Applying Update: one record makes the job's image the active one of its index, and drops the job
 abbrev pub image_of_job : Job → Image
@@ -29,5 +23,5 @@ verified s j false = with_session (with_job s (record j { stored = Refused; para
 -- else what the BLOB server does
 abbrev pub on_time : NodeState → UpdatePhase → Outcome
 on_time s (Applying j) = record { next = activated s j; replies = []; work = Recorded false }
-on_time s (Verifying j) = record { next = verified s j (fits (joined j.held) j.meta); replies = []; work = Recorded false }
+on_time s (Verifying j) = record { next = verified s j (is_fit (joined j.held) j.meta); replies = []; work = Recorded false }
 on_time s phase = served s (on_server_time (server_of s) (serving_in phase))
