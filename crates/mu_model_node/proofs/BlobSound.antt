@@ -234,7 +234,7 @@ received v t p c chunks is has k count lengths =
     split v (is_full chunks) (completes (heard_at v.now v.session) p c chunks) _ (λ full. completed v t p c chunks is has k count lengths full) (λ lacks. kept v t p c chunks is has k count lengths)
 
 -- the current block of a phase is sound
-current_of : (v : Server) (t : Transfer) (p : Parameters) (c : CurrentBlock) → v.serving ≡ Lacking t → t.parameters ≡ Some p → v.session.current ≡ Some c → CurrentIn v.serving v.session.current → IsCurrent p t.held c
+pub current_of : (v : Server) (t : Transfer) (p : Parameters) (c : CurrentBlock) → v.serving ≡ Lacking t → t.parameters ≡ Some p → v.session.current ≡ Some c → CurrentIn v.serving v.session.current → IsCurrent p t.held c
 current_of v t p c is has at h =
     let own : IsCurrentIn t c = subst (CurrentIn (Lacking t)) at (subst (λ x. CurrentIn x v.session.current) is h) in
     let same_parameters : own.parameters ≡ p = cc (own.has, has) in

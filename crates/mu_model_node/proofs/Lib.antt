@@ -10,4 +10,5 @@ pub mod Steps
 pub mod Causes
 pub mod Ranges
 pub mod Told
+pub mod Phases
 pub mod Worked

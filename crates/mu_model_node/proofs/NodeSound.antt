@@ -109,7 +109,7 @@ written s job h k = record {
 -- ---- what the BLOB server did
 
 -- the job that a sound node has
-own_job : (s : NodeState) (j : Job) → IsNodeState s → s.durable.job ≡ Some j → IsJob s.durable.capacity s.durable.images j
+pub own_job : (s : NodeState) (j : Job) → IsNodeState s → s.durable.job ≡ Some j → IsJob s.durable.capacity s.durable.images j
 own_job s j h e = subst (HasJob s.durable.capacity s.durable.images) e h.durable.job
 
 -- a job whose blocks are others

@@ -59,7 +59,7 @@ step_length whole size k =
     rw e (omega arith)
 
 -- the pieces cover the whole
-covered : (whole size : ℕ) → 0 < size → whole ≤ piece_count whole size * size
+pub covered : (whole size : ℕ) → 0 < size → whole ≤ piece_count whole size * size
 covered whole size positive = omega (arith, div-add-mod' (whole + size - 1) size, mod_below (whole + size - 1) size positive)
 
 pub joined_length : (whole size k : ℕ) (slots : Slots) → is_full slots ≡ true → ((i : ℕ) (octets : List ℕ) → at slots i ≡ Some octets → length octets ≡ piece_length whole size (k + i)) → length (joined slots) + min whole (k * size) ≡ min whole ((k + length slots) * size)

@@ -14,7 +14,7 @@ use Rattle.mu_model_node.specs.FlashWork.{FlashWork, PutBlock}
 use Rattle.mu_model_node.specs.NodeState.{Job, NodeDurable, NodeState, restarted, is_addressee, update_phase, update_number, server_of, blob_phase}
 use Rattle.mu_model_node.specs.Events.{NodeEvent, PacketComes, TimeComes, on_request, node_step, node_passed, node_work}
 use Rattle.mu_model_node.specs.Log.{LogEntry, Took, Asked, Active, Canceled, logged}
-use Rattle.mu_model_node.specs.Sound.{IsNodeDurable, IsNodeState, RequestFits}
+use Rattle.mu_model_node.specs.Sound.{IsNodeDurable, IsNodeState, IsPhase, RequestFits}
 use Rattle.mu_model_node.specs.Safe.{left_after}
 use Rattle.mu_model_node.specs.declared.NodeConfig.{NodeConfig}
 
@@ -38,6 +38,10 @@ EventsKeepStatesSound =
 -- and a boot does, from what it may find
 abbrev pub BootsAreSound : Type 0
 BootsAreSound = (d : NodeDurable) → IsNodeDurable d → IsNodeState (restarted d)
+
+-- in a sound state what the BLOB phase has is sound
+abbrev pub PhasesAreSound : Type 0
+PhasesAreSound = (s : NodeState) → IsNodeState s → IsPhase (blob_phase s)
 
 -- ---- the durable states that an event goes through
 

@@ -4,9 +4,9 @@ use Rattle.std.specs.Prelude.{ℕ, ◌≡◌, ◌<◌, ◌≤◌, ◌*◌, List,
 use Rattle.mu_model_image.specs.Meta.{Image, IsFit}
 use Rattle.mu_model_image.specs.Pieces.{block_count, block_length, chunk_count, chunk_length}
 use Rattle.mu_model_node.specs.Slots.{Slots, at, is_full, joined}
-use Rattle.mu_model_node.specs.BlobMessages.{Parameters, BlobRequest, TransferStart, least_log, most_log, least_chunk, most_chunk}
+use Rattle.mu_model_node.specs.BlobMessages.{Parameters, BlobRequest, TransferStart, least_log, most_log, least_chunk, most_chunk, most_chunks}
 use Rattle.mu_model_node.specs.NodeMessages.{Request, OfUpdate, OfBlob}
-use Rattle.mu_model_node.specs.BlobServer.{CurrentBlock}
+use Rattle.mu_model_node.specs.BlobServer.{Transfer, CurrentBlock, BlobPhase, NextBlock, NextChunk}
 use Rattle.mu_model_node.specs.FlashWork.{page_octets}
 use Rattle.mu_model_node.specs.NodeState.{Stored, Filling, Verified, Refused, Applied, Job, NodeDurable, NodeState}
 
@@ -120,3 +120,22 @@ pub record IsNodeState (s : NodeState) : Type 0 where
   pub durable : IsNodeDurable s.durable
   pub fresh : s.fresh ≤ 3
   pub current : HasCurrent s.durable.job s.session.current
+
+-- a transfer that was begun, within 256 pages
+pub record IsTransfer (t : Transfer) (p : Parameters) : Type 0 where
+  pub some : 1 ≤ p.size
+  pub few_octets : p.size ≤ 1048576
+  pub blocks : AreBlocks t.size p t.held
+
+-- a current block has at least one chunk and at most 2048
+pub record IsComing (t : Transfer) (p : Parameters) (c : CurrentBlock) : Type 0 where
+  pub transfer : IsTransfer t p
+  pub current : IsCurrent p t.held c
+  pub some_chunk : 1 ≤ length c.chunks
+  pub few_chunks : length c.chunks ≤ most_chunks
+
+-- what a phase has is sound
+abbrev pub IsPhase : BlobPhase → Type 0
+IsPhase (NextBlock t p) = IsTransfer t p
+IsPhase (NextChunk t p c) = IsComing t p c
+IsPhase _ = Unit {0}

@@ -2,6 +2,10 @@
 //! in packets and octets.
 #![tactic(auto)]
 
+mod phases;
 mod slots;
+mod values;
 
+pub use phases::{BlobPhase, Serving, UpdatePhase, blob_phase, serving_at, update_phase};
 pub use slots::{Octets, Slots};
+pub use values::{CurrentBlock, Image, Job, PullReport, Session, State};

@@ -1,6 +1,6 @@
 // A place for each number below a bound, with octets or nothing.
-ghost use Rattle.std.specs.Prelude.{◌≡◌, ◌≤◌, ◌<◌, length, take, is_some, IfOk, slice_index_or};
-ghost use Rattle.mu_model_wire.specs.Reports.{members};
+ghost use Rattle.std.specs.Prelude.{◌≡◌, ◌≤◌, ◌<◌, ◌++◌, true, if◌then◌else◌, length, is_some, is_none, slice_set, IfOk};
+ghost use Rattle.mu_reference.specs.Words.{piece_at};
 ghost use Rattle.mu_model_node.specs.Slots.{empty, at, put, is_full, missing, joined};
 
 use mu_report::NumberSet;
@@ -104,15 +104,46 @@ impl Slots {
     }
 
     /// All that is there, in order.
+    #[tactic(auto, using(crate::proofs::Places::joined_more))]
     pub fn joined(&self, alloc: Global) -> Result<Vec<u8>, AllocError>
         ensures { IfOk result (λ octets. octets.items ≡ joined self.now) }
     {
         let mut all = Vec::new(alloc);
         for place in &self.places {
-            if let Some(octets) = place {
-                all.extend_from_slice(octets.as_slice())?;
-            }
+            append(&mut all, place)?;
         }
         Ok(all)
+    }
+
+    /// The set of the places with nothing.
+    #[tactic(auto, using(crate::proofs::Places::noted_more, crate::proofs::Places::noted_length, crate::proofs::Places::noted_all, crate::proofs::Places::noted_none))]
+    pub fn missing(&self) -> NumberSet
+        requires { length self.now ≤ 2048 }
+        ensures { result ≡ missing self.now }
+    {
+        let mut set = NumberSet::new(self.places.len() as u16);
+        for (index, place) in self.places.iter().enumerate() {
+            note(&mut set, index as u16, place);
+        }
+        set
+    }
+}
+
+fn append(all: &mut Vec<u8>, place: &Option<Octets>) -> Result<(), AllocError>
+    ensures { IfOk result (λ _. all.new.items ≡ all.old.items ++ piece_at place.now) }
+{
+    match place {
+        Some(octets) => all.extend_from_slice(octets.as_slice())?,
+        None => (),
+    }
+    Ok(())
+}
+
+fn note(set: &mut NumberSet, index: u16, place: &Option<Octets>)
+    requires { index < length set.old }
+    ensures { set.new ≡ (if is_none place.now then slice_set set.old index true else set.old) }
+{
+    if place.is_none() {
+        set.insert(index);
     }
 }

@@ -193,8 +193,8 @@ impl NumberSet {
         2 * self.count() - ones(&self.words[..2])
     }
 
-    // The members, rising.
-    pub(crate) fn numbers(&self) -> ArrayVec<u16, 374>
+    /// The members, rising.
+    pub fn numbers(&self) -> ArrayVec<u16, 374>
         requires { length (members self.now) ≤ 374 }
         ensures { result.items ≡ members self.now }
     {
@@ -207,8 +207,8 @@ impl NumberSet {
         numbers
     }
 
-    // The bit field of the set.
-    pub(crate) fn bit_field(&self) -> ArrayVec<u8, 374>
+    /// The bit field of the set.
+    pub fn bit_field(&self) -> ArrayVec<u8, 374>
         ensures { result.items ≡ bit_field self.now }
     {
         let mut octets = [0; 256];

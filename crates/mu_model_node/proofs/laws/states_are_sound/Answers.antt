@@ -1,3 +1,4 @@
+use Rattle.mu_model_node.proofs.Phases.{phases_are_sound}
 use Rattle.mu_model_node.proofs.Steps.{events_keep, boots_are_sound}
 use Rattle.mu_model_node.proofs.laws.states_are_sound.Goals as goal
 
@@ -6,3 +7,6 @@ returns-clause-events c = events_keep
 
 pub returns-clause-boots : goal.returns-clause-boots
 returns-clause-boots c = boots_are_sound
+
+pub returns-clause-phases : goal.returns-clause-phases
+returns-clause-phases c = phases_are_sound
