@@ -55,7 +55,9 @@ abbrev pub PhaseIs : Server → BlobPhase → Type 0
 PhaseIs v (WaitingForStart t) = (v.serving ≡ Lacking t) × (t.parameters ≡ None)
 PhaseIs v (NextBlock t p) = (v.serving ≡ Lacking t) × (t.parameters ≡ Some p)
 PhaseIs v (NextChunk t p c) = (v.serving ≡ Lacking t) × (t.parameters ≡ Some p) × (v.session.current ≡ Some c)
-PhaseIs v _ = ⊤
+PhaseIs v (Suspended t p) = (v.serving ≡ Lacking t) × (t.parameters ≡ Some p)
+PhaseIs v (Complete t) = v.serving ≡ Whole t
+PhaseIs v Inactive = ⊤
 
 is_running : (v : Server) (t : Transfer) (p : Parameters) (current : Option CurrentBlock) → v.serving ≡ Lacking t → t.parameters ≡ Some p → v.session.current ≡ current → PhaseIs v (running_phase t p current)
 is_running v t p None h e k = (h, e)
@@ -65,14 +67,14 @@ is_transfer : (v : Server) (t : Transfer) (parameters : Option Parameters) (link
 is_transfer v t None Cut h e = tt
 is_transfer v t None Ready h e = (h, e)
 is_transfer v t None Running h e = (h, e)
-is_transfer v t (Some p) Cut h e = tt
-is_transfer v t (Some p) Ready h e = tt
+is_transfer v t (Some p) Cut h e = (h, e)
+is_transfer v t (Some p) Ready h e = (h, e)
 is_transfer v t (Some p) Running h e = is_running v t p v.session.current h e refl
 
 is_phase : (v : Server) (serving : Serving) → v.serving ≡ serving → PhaseIs v (serving_phase v.session serving)
 is_phase v NoJob e = tt
 is_phase v (Lacking t) e = is_transfer v t t.parameters v.session.link e refl
-is_phase v (Whole t) e = tt
+is_phase v (Whole t) e = e
 
 pub phase_is : (v : Server) → PhaseIs v (server_phase v)
 phase_is v = is_phase v v.serving refl

@@ -6,7 +6,7 @@ use Rattle.mu_model_image.specs.Pieces.{block_count, block_length, chunk_count, 
 use Rattle.mu_model_node.specs.Slots.{Slots, at, is_full, joined}
 use Rattle.mu_model_node.specs.BlobMessages.{Parameters, BlobRequest, TransferStart, least_log, most_log, least_chunk, most_chunk, most_chunks}
 use Rattle.mu_model_node.specs.NodeMessages.{Request, OfUpdate, OfBlob}
-use Rattle.mu_model_node.specs.BlobServer.{Transfer, CurrentBlock, BlobPhase, NextBlock, NextChunk}
+use Rattle.mu_model_node.specs.BlobServer.{Transfer, CurrentBlock, BlobPhase, NextBlock, NextChunk, Complete, Suspended}
 use Rattle.mu_model_node.specs.FlashWork.{page_octets}
 use Rattle.mu_model_node.specs.NodeState.{Stored, Filling, Verified, Refused, Applied, Job, NodeDurable, NodeState}
 
@@ -125,6 +125,7 @@ pub record IsNodeState (s : NodeState) : Type 0 where
 pub record IsTransfer (t : Transfer) (p : Parameters) : Type 0 where
   pub some : 1 ≤ p.size
   pub few_octets : p.size ≤ 1048576
+  pub few_blocks : length t.held ≤ 256
   pub blocks : AreBlocks t.size p t.held
 
 -- a current block has at least one chunk and at most 2048
@@ -138,4 +139,6 @@ pub record IsComing (t : Transfer) (p : Parameters) (c : CurrentBlock) : Type 0 
 abbrev pub IsPhase : BlobPhase → Type 0
 IsPhase (NextBlock t p) = IsTransfer t p
 IsPhase (NextChunk t p c) = IsComing t p c
+IsPhase (Suspended t p) = IsTransfer t p
+IsPhase (Complete t) = length t.held ≤ 256
 IsPhase _ = Unit {0}

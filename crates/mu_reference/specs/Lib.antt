@@ -1,2 +1,4 @@
 pub mod Words
 pub mod View
+pub mod Messages
+pub mod BlobRows
