@@ -18,7 +18,7 @@ use Rattle.mu_model_node.specs.Laws.{OctetsAskInRange}
 -- the fields of a Transfer Start
 start_fits : (fields : List Shown) (entries : List (List Shown)) → FieldsFit transfer_start [] fields entries → AreInRange (parameters_of fields)
 start_fits (number a v ∷ number b w ∷ number c x ∷ number d y ∷ number e z ∷ more) entries h =
-    rw (h.0.0, h.1.0.0, h.1.1.0.0, h.1.1.1.0.0, h.1.1.1.1.0.0) (record { mode_above = h.0.1; mode_below = h.0.2; mtu_above = h.1.1.1.1.0.1 })
+    rw (h.0.0, h.1.0.0, h.1.1.0.0, h.1.1.1.0.0, h.1.1.1.1.0.0) (record { some = h.1.1.0.1; mode_above = h.0.1; mode_below = h.0.2; mtu_above = h.1.1.1.1.0.1 })
 start_fits [] entries h = absurd h.0
 start_fits (octets a v ∷ more) entries h = absurd h.0
 start_fits (number a v ∷ []) entries h = absurd h.1.0

@@ -13,6 +13,7 @@ use Rattle.mu_model_node.specs.NodeMessages.{Request, OfUpdate, OfBlob, request_
 use Rattle.mu_model_node.specs.FlashWork.{FlashWork, PutBlock}
 use Rattle.mu_model_node.specs.NodeState.{Job, NodeDurable, NodeState, restarted, is_addressee, update_phase, update_number, server_of, blob_phase}
 use Rattle.mu_model_node.specs.Events.{NodeEvent, PacketComes, TimeComes, on_request, node_step, node_passed, node_work}
+use Rattle.mu_model_node.specs.TimeTable.{on_time}
 use Rattle.mu_model_node.specs.Log.{LogEntry, Took, Asked, Active, Canceled, logged}
 use Rattle.mu_model_node.specs.Sound.{IsNodeDurable, IsNodeState, IsPhase, RequestFits}
 use Rattle.mu_model_node.specs.Safe.{left_after}
@@ -34,6 +35,13 @@ abbrev pub EventsKeepStatesSound : Type 0
 EventsKeepStatesSound =
     (config : NodeConfig) (s : NodeState) (event : NodeEvent) (now : ℕ) → EventFits event → IsNodeState s
     → IsNodeState (node_step config s event now).next
+
+-- so do a message that is taken, and time
+abbrev pub RequestsKeepStatesSound : Type 0
+RequestsKeepStatesSound = (s : NodeState) (from : ℕ) (request : Request) → RequestFits request → IsNodeState s → IsNodeState (on_request s from request).next
+
+abbrev pub TimeKeepsStatesSound : Type 0
+TimeKeepsStatesSound = (s : NodeState) → IsNodeState s → IsNodeState (on_time s (update_phase s)).next
 
 -- and a boot does, from what it may find
 abbrev pub BootsAreSound : Type 0

@@ -81,6 +81,7 @@ pub record IsNodeDurable (d : NodeDurable) : Type 0 where
 
 -- the parameters of a Transfer Start are in the ranges of the grammar
 pub record AreInRange (p : Parameters) : Type 0 where
+  pub some : 1 ≤ p.size
   pub mode_above : 1 ≤ p.mode
   pub mode_below : p.mode ≤ 2
   pub mtu_above : 20 ≤ p.mtu

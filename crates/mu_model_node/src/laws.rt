@@ -2,7 +2,7 @@
 
 ghost use Rattle.mu_model_node.specs.Safe.{OneNodeIsSafe};
 ghost use Rattle.mu_model_node.specs.Worked.{AWholeUpdate, PowerCuts, Refusals, TwoImages};
-ghost use Rattle.mu_model_node.specs.Laws.{OctetsAskInRange, EventsKeepStatesSound, BootsAreSound, PhasesAreSound, StatesPassRising, WorkLeavesOldOrNew, WorkLeadsToTheNew, WorkIsBounded, ToldPhaseIsThePhase, MissingIsTheRest, FullLacksNone, EntriesHaveCauses};
+ghost use Rattle.mu_model_node.specs.Laws.{OctetsAskInRange, EventsKeepStatesSound, RequestsKeepStatesSound, TimeKeepsStatesSound, BootsAreSound, PhasesAreSound, StatesPassRising, WorkLeavesOldOrNew, WorkLeadsToTheNew, WorkIsBounded, ToldPhaseIsThePhase, MissingIsTheRest, FullLacksNone, EntriesHaveCauses};
 
 use mu_model_wire::laws::{grammar_holds, reads_what_is_spelled};
 
@@ -15,6 +15,8 @@ pub fn one_node_is_safe()
 /// A node's states are sound, from each boot on.
 pub fn states_are_sound()
     ensures events { EventsKeepStatesSound }
+    ensures requests { RequestsKeepStatesSound }
+    ensures time { TimeKeepsStatesSound }
     ensures boots { BootsAreSound }
     ensures phases { PhasesAreSound }
 {}

@@ -2,3 +2,4 @@ pub mod Words
 pub mod View
 pub mod Messages
 pub mod BlobRows
+pub mod Outcomes

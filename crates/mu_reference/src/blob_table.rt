@@ -8,6 +8,7 @@ ghost use Rattle.mu_model_node.specs.NodeState.{transfer_of};
 ghost use Rattle.mu_model_node.specs.Sound.{IsTransfer, IsComing, IsPhase};
 ghost use Rattle.mu_reference.specs.View.{job_of, current_of, blob_phase_of};
 ghost use Rattle.mu_reference.specs.BlobRows.{server_of, session_by, told_by, block_told_by, chunk_stepped};
+ghost use Rattle.mu_reference.specs.Outcomes.{BeginsWithin};
 
 use crate::phases::{BlobPhase, Serving, blob_phase};
 use crate::values::{CurrentBlock, Job, Session};
@@ -117,7 +118,8 @@ fn accepted(session: SessionChange, change: TransferChange) -> Told
 }
 
 fn start<'a>(server: Server<'a>, parameters: Parameters, job: &'a Job) -> Told
-    ensures { (to : ℕ) → starts (server_of server.entry) to parameters (transfer_of (job_of job.now)) ≡ told_by (server_of server.entry) to parameters result }
+    ensures within { BeginsWithin server.entry.capacity parameters result.change }
+    ensures told { (to : ℕ) → starts (server_of server.entry) to parameters (transfer_of (job_of job.now)) ≡ told_by (server_of server.entry) to parameters result }
 {
     if parameters.size > server.capacity {
         refused(BLOB_TOO_LARGE)
@@ -131,7 +133,8 @@ fn start<'a>(server: Server<'a>, parameters: Parameters, job: &'a Job) -> Told
 }
 
 fn resume<'a>(server: Server<'a>, parameters: Parameters, present: Parameters) -> Told
-    ensures { (to : ℕ) → resumes (server_of server.entry) to parameters present ≡ told_by (server_of server.entry) to parameters result }
+    ensures within { BeginsWithin server.entry.capacity parameters result.change }
+    ensures told { (to : ℕ) → resumes (server_of server.entry) to parameters present ≡ told_by (server_of server.entry) to parameters result }
 {
     if parameters == present {
         accepted(SessionChange::Links, TransferChange::Nothing)
@@ -141,7 +144,8 @@ fn resume<'a>(server: Server<'a>, parameters: Parameters, present: Parameters) -
 }
 
 fn repeat<'a>(server: Server<'a>, heard: SessionChange, parameters: Parameters, job: &'a Job) -> Told
-    ensures { (to : ℕ) → repeats (server_of server.entry) (session_by heard server.entry.now to (server_of server.entry).session) to parameters (transfer_of (job_of job.now)) ≡ told_by (server_of server.entry) to parameters result }
+    ensures within { BeginsWithin server.entry.capacity parameters result.change }
+    ensures told { (to : ℕ) → repeats (server_of server.entry) (session_by heard server.entry.now to (server_of server.entry).session) to parameters (transfer_of (job_of job.now)) ≡ told_by (server_of server.entry) to parameters result }
 {
     match job.parameters {
         Some(present) if parameters == present => accepted(heard, TransferChange::Nothing),
@@ -151,7 +155,8 @@ fn repeat<'a>(server: Server<'a>, heard: SessionChange, parameters: Parameters, 
 
 /// BLOB Transfer Start.
 pub fn on_transfer_start<'a>(server: Server<'a>, id: u64, parameters: Parameters, phase: BlobPhase<'a>) -> Told
-    ensures { (to : ℕ) → on_transfer_start (server_of server.entry) to id parameters (blob_phase_of phase.entry) ≡ told_by (server_of server.entry) to parameters result }
+    ensures within { BeginsWithin server.entry.capacity parameters result.change }
+    ensures told { (to : ℕ) → on_transfer_start (server_of server.entry) to id parameters (blob_phase_of phase.entry) ≡ told_by (server_of server.entry) to parameters result }
 {
     match phase {
         BlobPhase::WaitingForStart(job) if id == job.id => start(server, parameters, job),
@@ -175,7 +180,8 @@ pub fn on_transfer_start<'a>(server: Server<'a>, id: u64, parameters: Parameters
 
 /// BLOB Transfer Cancel.
 pub fn on_transfer_cancel<'a>(server: Server<'a>, id: u64) -> Told
-    ensures { (to : ℕ) (p : Parameters) → on_transfer_cancel (server_of server.entry) to id (server_of server.entry).serving ≡ told_by (server_of server.entry) to p result }
+    ensures within { (p : Parameters) → BeginsWithin server.entry.capacity p result.change }
+    ensures told { (to : ℕ) (p : Parameters) → on_transfer_cancel (server_of server.entry) to id (server_of server.entry).serving ≡ told_by (server_of server.entry) to p result }
 {
     match server.serving {
         Serving::NoJob => refused(SUCCESS),

@@ -2,16 +2,21 @@
 //! in packets and octets.
 #![tactic(auto)]
 
+mod blob_events;
 mod blob_table;
 mod messages;
 mod phases;
+mod recording;
+mod session;
 mod slots;
 mod timing;
 mod values;
 
+pub use blob_events::{Served, transfer_reply};
 pub use blob_table::{BlockTold, ChunkStep, Server, SessionChange, Told, TransferChange};
 pub use messages::{BlobReply, BlobRequest, ShownJob, UpdateReply, UpdateRequest, UpdateStart};
 pub use phases::{BlobPhase, Serving, UpdatePhase, blob_phase, serving_at, update_phase};
+pub use recording::Stop;
 pub use slots::{Octets, Slots};
 pub use timing::{TimeStep, is_late, on_server_time};
 pub use values::{CurrentBlock, Image, Job, PullReport, Session, State};
