@@ -2,6 +2,8 @@
 use Rattle.std.specs.Prelude.{ℕ, ◌≡◌, ◌≤◌, ◌==◌, ◌&&◌, Bool, true, false, List, [], ◌∷◌, Option, Some, None, Result, Ok, Err}
 use Rattle.mu_model_node.specs.declared.Parameters.{Parameters}
 use Rattle.mu_model_node.specs.BlobMessages.{BlobReply, least_log, most_log}
+use Rattle.mu_model_node.specs.declared.FlashWork.{FlashWork}
+use Rattle.mu_model_node.specs.BlobServer.{Change}
 use Rattle.mu_model_node.specs.BlobTable.{Served}
 use Rattle.mu_model_node.specs.NodeState.{NodeState}
 use Rattle.mu_model_node.specs.NodeOutcome.{work_of, served}
@@ -21,6 +23,12 @@ blob_replies_of (Some reply) = (reply.0, blob_reply_of reply.1) ∷ []
 -- a record is due, and the last was written
 abbrev pub is_spent : NodeState → Served → Bool
 is_spent s o = has_record (work_of o.change) && (s.durable.count == last_count)
+
+-- the kept state is changed so, or the node has stopped
+abbrev pub ChangedAs : NodeState → NodeState → Change → Result FlashWork Stop → NodeState → Type 0
+ChangedAs s next c (Ok work) new = (new ≡ next) × (work ≡ work_of c) × ((has_record (work_of c) && (s.durable.count == last_count)) ≡ false)
+ChangedAs s next c (Err Worn) new = (has_record (work_of c) && (s.durable.count == last_count)) ≡ true
+ChangedAs s next c (Err NoMemory) new = Unit {0}
 
 -- the node has done what the BLOB server does, or has stopped
 abbrev pub ServedAs : NodeState → Served → Result ServedHere Stop → NodeState → Type 0

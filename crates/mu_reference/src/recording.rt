@@ -39,12 +39,14 @@ impl State {
 
     /// Whether the last record was written.
     pub fn is_at_last_record(&self) -> bool
-        ensures { result ≡ (self.now.count == last_count) }
+        ensures test { result ≡ (self.now.count == last_count) }
+        ensures room { result ≡ false → self.now.count < last_count }
     {
         self.count == u32::MAX
     }
 
-    fn begin(&mut self, alloc: Global, parameters: Parameters) -> Result<(), AllocError>
+    /// A transfer is begun: one record.
+    pub fn begin(&mut self, alloc: Global, parameters: Parameters) -> Result<(), AllocError>
         requires room { self.old.count < last_count }
         requires size { 1 ≤ parameters.size }
         requires size_most { parameters.size ≤ 1048576 }
@@ -62,7 +64,8 @@ impl State {
         Ok(())
     }
 
-    fn drop_blocks(&mut self, alloc: Global)
+    /// Parameters and held blocks go: one record.
+    pub fn drop_blocks(&mut self, alloc: Global)
         requires { self.old.count < last_count }
         ensures { state_of self.new ≡ job_after (state_of self.old) Drops (there job_of self.old.job) }
     {
