@@ -180,7 +180,7 @@ pub fn on_transfer_start<'a>(server: Server<'a>, id: u64, parameters: Parameters
 
 /// BLOB Transfer Cancel.
 pub fn on_transfer_cancel<'a>(server: Server<'a>, id: u64) -> Told
-    ensures within { (p : Parameters) → BeginsWithin server.entry.capacity p result.change }
+    ensures within { (capacity : ℕ) (p : Parameters) → BeginsWithin capacity p result.change }
     ensures told { (to : ℕ) (p : Parameters) → on_transfer_cancel (server_of server.entry) to id (server_of server.entry).serving ≡ told_by (server_of server.entry) to p result }
 {
     match server.serving {

@@ -3,6 +3,7 @@
 #![tactic(auto)]
 
 mod blob_events;
+mod blob_requests;
 mod blob_table;
 mod messages;
 mod phases;
