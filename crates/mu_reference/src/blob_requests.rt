@@ -7,11 +7,11 @@ ghost use Rattle.mu_model_node.specs.NodeState.{server_of, blob_phase};
 ghost use Rattle.mu_model_node.specs.Sound.{AreInRange, IsNodeState};
 ghost use Rattle.mu_reference.specs.View.{state_of, blob_phase_of};
 ghost use Rattle.mu_reference.specs.Messages.{blob_reply_of};
-ghost use Rattle.mu_reference.specs.BlobRows.{told_by};
+ghost use Rattle.mu_reference.specs.BlobRows.{told_by, block_told_by};
 ghost use Rattle.mu_reference.specs.Outcomes.{BeginsWithin, ServedAs};
 
 use crate::blob_events::{Served, transfer_reply};
-use crate::blob_table::{Told, on_transfer_cancel, on_transfer_start};
+use crate::blob_table::{BlockTold, Told, on_block_get, on_block_start, on_transfer_cancel, on_transfer_start};
 use crate::messages::BlobReply;
 use crate::phases::BlobPhase;
 use crate::recording::Stop;
@@ -56,7 +56,7 @@ impl State {
 
     fn cancel_told(&self, id: u64) -> Told
         ensures within { (capacity : ℕ) (p : Parameters) → BeginsWithin capacity p result.change }
-        ensures told { (from : ℕ) (p : Parameters) → on_blob (server_of (state_of self.now)) from (TransferCancel id) ≡ told_by (server_of (state_of self.now)) from p result }
+        ensures told { (from : ℕ) → on_blob (server_of (state_of self.now)) from (TransferCancel id) ≡ told_by (server_of (state_of self.now)) from UNUSED result }
     {
         on_transfer_cancel(self.server(), id)
     }
@@ -116,5 +116,60 @@ impl State {
             reply: Some((from, reply)),
             work,
         })
+    }
+
+    fn block_start_told(&self, block: u16, chunk_size: u16) -> BlockTold
+        requires { IsNodeState (state_of self.now) }
+        ensures { (from : ℕ) → on_blob (server_of (state_of self.now)) from (BlockStart block chunk_size) ≡ block_told_by (server_of (state_of self.now)) from result }
+    {
+        states_are_sound();
+        on_block_start(block, chunk_size, self.blob_phase())
+    }
+
+    fn block_get_told(&self) -> BlockTold
+        requires { IsNodeState (state_of self.now) }
+        ensures { (from : ℕ) → on_blob (server_of (state_of self.now)) from BlockGet ≡ block_told_by (server_of (state_of self.now)) from result }
+    {
+        states_are_sound();
+        on_block_get(self.server(), self.blob_phase())
+    }
+
+    /// Does what a Block row says.
+    #[tactic(auto, using(crate::proofs::Changes::same_after))]
+    fn tell_block(&mut self, alloc: Global, from: u16, told: BlockTold) -> Result<Served, Stop>
+        ensures { ServedAs (state_of self.old) (block_told_by (server_of (state_of self.old)) from told) result (state_of self.new) }
+    {
+        let now = self.moment;
+        if self.session.change(alloc, told.session, now, from).is_err() {
+            return Err(Stop::NoMemory);
+        }
+        let reply = BlobReply::BlockStatus {
+            status: told.status,
+            block: told.block,
+            chunk_size: told.chunk_size,
+            report: told.report,
+        };
+        Ok(Served {
+            reply: Some((from, reply)),
+            work: FlashWork::Untouched,
+        })
+    }
+
+    /// BLOB Block Start.
+    pub fn on_block_start(&mut self, alloc: Global, from: u16, block: u16, chunk_size: u16) -> Result<Served, Stop>
+        requires { IsNodeState (state_of self.old) }
+        ensures { ServedAs (state_of self.old) (on_blob (server_of (state_of self.old)) from (BlockStart block chunk_size)) result (state_of self.new) }
+    {
+        let told = self.block_start_told(block, chunk_size);
+        self.tell_block(alloc, from, told)
+    }
+
+    /// BLOB Block Get.
+    pub fn on_block_get(&mut self, alloc: Global, from: u16) -> Result<Served, Stop>
+        requires { IsNodeState (state_of self.old) }
+        ensures { ServedAs (state_of self.old) (on_blob (server_of (state_of self.old)) from BlockGet) result (state_of self.new) }
+    {
+        let told = self.block_get_told();
+        self.tell_block(alloc, from, told)
     }
 }
