@@ -9,7 +9,7 @@ use Rattle.mu_model_node.specs.BlobMessages.{Parameters}
 use Rattle.mu_model_node.specs.BlobServer.{Transfer, CurrentBlock, Lacking, Whole, BlobPhase, Inactive, WaitingForStart, NextBlock, NextChunk, Complete, Suspended}
 use Rattle.mu_model_node.specs.NodeState.{Job, NodeState, UpdatePhase, Verifying, Succeeded, Applying, update_phase, transfer_of, serving_in, server_of, blob_phase}
 use Rattle.mu_model_node.specs.Sound.{AreBlocks, HasBlocks, IsJob, IsNodeState, IsCurrent, IsTransfer, IsComing, IsPhase}
-use Rattle.mu_model_node.specs.Laws.{PhasesAreSound}
+use Rattle.mu_model_node.specs.Laws.{PhasesAreSound, WaitsForChunks, ChunksAreOfTheJob}
 use Rattle.mu_model_node.proofs.Places.{block_is_short}
 use Rattle.mu_model_node.proofs.BlobSound.{PhaseIs, phase_is, current_of}
 use Rattle.mu_model_node.proofs.Moves.{PhaseOf, phase_of}
@@ -108,3 +108,11 @@ sound_phase s (Suspended t p) h is = transfers s t p h is.0 is.1
 
 pub phases_are_sound : PhasesAreSound
 phases_are_sound s h = sound_phase s (blob_phase s) h (phase_is (server_of s))
+
+chunks_of : (s : NodeState) (t : Transfer) (p : Parameters) (c : CurrentBlock) → PhaseIs (server_of s) (NextChunk t p c) → WaitsForChunks s t p c
+chunks_of s t p c h =
+    let l : LackingJob s.durable.job t = lacking_job s.durable.job (update_phase s) t (phase_of s.session.link s.durable.job) h.0 in
+    record { of = l.of; is = l.is; transfer = l.transfer; parameters = subst (λ (x : Transfer). x.parameters ≡ Some p) l.transfer h.1; current = h.2 }
+
+pub chunks_are_of_the_job : ChunksAreOfTheJob
+chunks_are_of_the_job s t p c e = chunks_of s t p c (subst (PhaseIs (server_of s)) e (phase_is (server_of s)))

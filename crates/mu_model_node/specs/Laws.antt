@@ -5,13 +5,13 @@ use Rattle.mu_model_wire.specs.Laws.{AreOctets}
 use Rattle.mu_model_wire.specs.Reports.{has, complement}
 use Rattle.mu_model_image.specs.Meta.{meta_from}
 use Rattle.mu_model_node.specs.Slots.{Slots, received, missing, is_full, held_count}
-use Rattle.mu_model_node.specs.BlobMessages.{BlobRequest}
-use Rattle.mu_model_node.specs.BlobServer.{serving_phase, serving_after}
+use Rattle.mu_model_node.specs.BlobMessages.{Parameters, BlobRequest}
+use Rattle.mu_model_node.specs.BlobServer.{Transfer, CurrentBlock, NextChunk, serving_phase, serving_after}
 use Rattle.mu_model_node.specs.BlobTable.{on_blob}
 use Rattle.mu_model_node.specs.UpdateMessages.{UpdateStart, StartUpdate, UpdateCancel, UpdateApply}
 use Rattle.mu_model_node.specs.NodeMessages.{Request, OfUpdate, OfBlob, request_at}
 use Rattle.mu_model_node.specs.FlashWork.{FlashWork, PutBlock}
-use Rattle.mu_model_node.specs.NodeState.{Job, NodeDurable, NodeState, restarted, is_addressee, update_phase, update_number, server_of, blob_phase}
+use Rattle.mu_model_node.specs.NodeState.{Job, NodeDurable, NodeState, restarted, is_addressee, update_phase, update_number, transfer_of, server_of, blob_phase}
 use Rattle.mu_model_node.specs.Events.{NodeEvent, PacketComes, TimeComes, on_request, node_step, node_passed, node_work}
 use Rattle.mu_model_node.specs.TimeTable.{on_time}
 use Rattle.mu_model_node.specs.Log.{LogEntry, Took, Asked, Active, Canceled, logged}
@@ -50,6 +50,17 @@ BootsAreSound = (d : NodeDurable) → IsNodeDurable d → IsNodeState (restarted
 -- in a sound state what the BLOB phase has is sound
 abbrev pub PhasesAreSound : Type 0
 PhasesAreSound = (s : NodeState) → IsNodeState s → IsPhase (blob_phase s)
+
+-- a node that waits for chunks has the job, its parameters and the block
+pub record WaitsForChunks (s : NodeState) (t : Transfer) (p : Parameters) (c : CurrentBlock) : Type 0 where
+  pub of : Job
+  pub is : s.durable.job ≡ Some of
+  pub transfer : t ≡ transfer_of of
+  pub parameters : of.parameters ≡ Some p
+  pub current : s.session.current ≡ Some c
+
+abbrev pub ChunksAreOfTheJob : Type 0
+ChunksAreOfTheJob = (s : NodeState) (t : Transfer) (p : Parameters) (c : CurrentBlock) → blob_phase s ≡ NextChunk t p c → WaitsForChunks s t p c
 
 -- ---- the durable states that an event goes through
 

@@ -2,7 +2,7 @@
 
 ghost use Rattle.mu_model_node.specs.Safe.{OneNodeIsSafe};
 ghost use Rattle.mu_model_node.specs.Worked.{AWholeUpdate, PowerCuts, Refusals, TwoImages};
-ghost use Rattle.mu_model_node.specs.Laws.{OctetsAskInRange, EventsKeepStatesSound, RequestsKeepStatesSound, TimeKeepsStatesSound, BootsAreSound, PhasesAreSound, StatesPassRising, WorkLeavesOldOrNew, WorkLeadsToTheNew, WorkIsBounded, ToldPhaseIsThePhase, MissingIsTheRest, FullLacksNone, EntriesHaveCauses};
+ghost use Rattle.mu_model_node.specs.Laws.{OctetsAskInRange, EventsKeepStatesSound, RequestsKeepStatesSound, TimeKeepsStatesSound, BootsAreSound, PhasesAreSound, ChunksAreOfTheJob, StatesPassRising, WorkLeavesOldOrNew, WorkLeadsToTheNew, WorkIsBounded, ToldPhaseIsThePhase, MissingIsTheRest, FullLacksNone, EntriesHaveCauses};
 
 use mu_model_wire::laws::{grammar_holds, reads_what_is_spelled};
 
@@ -35,6 +35,11 @@ pub fn flash_work()
     ensures left { WorkLeavesOldOrNew }
     ensures led { WorkLeadsToTheNew }
     ensures bounded { WorkIsBounded }
+{}
+
+/// A node that waits for chunks has a job and a block.
+pub fn chunks_are_of_the_job()
+    ensures { ChunksAreOfTheJob }
 {}
 
 /// A BLOB reply tells the phase after its message.

@@ -1,8 +1,9 @@
 -- What the functions of the BLOB table return, as the model's outcomes.
-use Rattle.std.specs.Prelude.{ℕ, List, None, Some, []}
+use Rattle.std.specs.Prelude.{ℕ, ◌≡◌, ◌<◌, List, length, Option, None, Some, []}
 use Rattle.mu_model_node.specs.declared.Parameters.{Parameters}
-use Rattle.mu_model_node.specs.BlobServer.{Session, unlinked, heard_at, linked, Server, BlobPhase, NextChunk, Change, Same, Begins, Drops}
+use Rattle.mu_model_node.specs.BlobServer.{CurrentBlock, Session, unlinked, heard_at, linked, Server, BlobPhase, NextChunk, Change, Same, Begins, Drops}
 use Rattle.mu_model_node.specs.BlobTable.{Served, silently, tell, tell_block, receives, to_client}
+use Rattle.mu_model_node.specs.NodeState.{Job, NodeState}
 use Rattle.mu_model_node.specs.Slots.{empty, put}
 use Rattle.mu_reference.specs.View.{session_of, serving_of}
 use Rattle.mu_reference.specs.declared.blob_table.Server.{Server as ServerHere}
@@ -43,8 +44,27 @@ block_told_by v to told = tell_block (session_by told.session v.now to v.session
 abbrev pub chunk_stepped : Server → ℕ → List ℕ → BlobPhase → ChunkStep → Served
 chunk_stepped v chunk octets phase PassOver = silently v.session
 chunk_stepped v chunk octets phase Hear = silently (heard_at v.now v.session)
-chunk_stepped v chunk octets (NextChunk t p c) Receive = receives (heard_at v.now v.session) p c (put c.chunks chunk octets)
-chunk_stepped v chunk octets _ Receive = silently v.session
+chunk_stepped v chunk octets (NextChunk t p c) (Receive q) = receives (heard_at v.now v.session) q c (put c.chunks chunk octets)
+chunk_stepped v chunk octets _ (Receive q) = silently v.session
+
+-- a chunk is received only where one is waited for, with these parameters and of such a number
+abbrev pub ReceivesWithin : ℕ → BlobPhase → ChunkStep → Type 0
+ReceivesWithin chunk (NextChunk t p c) (Receive q) = (p ≡ q) × (chunk < length c.chunks)
+ReceivesWithin chunk _ (Receive q) = ⊥
+ReceivesWithin chunk _ _ = Unit {0}
+
+-- what comes of a chunk that is received
+abbrev pub received_with : NodeState → Parameters → ℕ → List ℕ → Option CurrentBlock → Served
+received_with s p chunk octets None = silently s.session
+received_with s p chunk octets (Some c) = receives (heard_at s.moment s.session) p c (put c.chunks chunk octets)
+
+abbrev pub received_by : NodeState → Parameters → ℕ → List ℕ → Served
+received_by s p chunk octets = received_with s p chunk octets s.session.current
+
+-- there is the block, with such a chunk, and the job, with such a block
+abbrev pub HasPlace : ℕ → Option CurrentBlock → Option Job → Type 0
+HasPlace chunk (Some c) (Some j) = (chunk < length c.chunks) × (c.number < length j.held)
+HasPlace chunk _ _ = ⊥
 
 -- what is done as time passes
 abbrev pub time_stepped : Server → TimeStep → Served

@@ -7,7 +7,7 @@ ghost use Rattle.mu_model_node.specs.BlobTable.{starts, resumes, repeats, on_tra
 ghost use Rattle.mu_model_node.specs.NodeState.{transfer_of};
 ghost use Rattle.mu_model_node.specs.Sound.{IsTransfer, IsComing, IsPhase};
 ghost use Rattle.mu_reference.specs.View.{job_of, current_of, blob_phase_of};
-ghost use Rattle.mu_reference.specs.BlobRows.{server_of, session_by, told_by, block_told_by, chunk_stepped};
+ghost use Rattle.mu_reference.specs.BlobRows.{server_of, session_by, told_by, block_told_by, chunk_stepped, ReceivesWithin};
 ghost use Rattle.mu_reference.specs.Outcomes.{BeginsWithin};
 
 use crate::phases::{BlobPhase, Serving, blob_phase};
@@ -85,7 +85,7 @@ pub struct BlockTold {
 pub enum ChunkStep {
     PassOver,
     Hear,
-    Receive,
+    Receive(Parameters),
 }
 
 impl<'a> Server<'a> {
@@ -291,7 +291,8 @@ fn has_length(parameters: Parameters, current: &CurrentBlock, chunk: u16, octets
 /// BLOB Chunk Transfer.
 pub fn on_chunk_transfer<'a>(chunk: u16, octets: &[u8], phase: BlobPhase<'a>) -> ChunkStep
     requires { IsPhase (blob_phase_of phase) }
-    ensures { (v : ServerModel) → on_chunk_transfer v chunk octets.now (blob_phase_of phase.entry) ≡ chunk_stepped v chunk octets.now (blob_phase_of phase.entry) result }
+    ensures within { ReceivesWithin chunk (blob_phase_of phase.entry) result }
+    ensures stepped { (v : ServerModel) → on_chunk_transfer v chunk octets.now (blob_phase_of phase.entry) ≡ chunk_stepped v chunk octets.now (blob_phase_of phase.entry) result }
 {
     match phase {
         BlobPhase::NextChunk(_, parameters, current) => {
@@ -302,7 +303,7 @@ pub fn on_chunk_transfer<'a>(chunk: u16, octets: &[u8], phase: BlobPhase<'a>) ->
             } else if current.chunks.has(usize::from(chunk)) {
                 ChunkStep::Hear
             } else {
-                ChunkStep::Receive
+                ChunkStep::Receive(parameters)
             }
         }
         _ => ChunkStep::PassOver,

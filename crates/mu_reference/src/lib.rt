@@ -5,6 +5,7 @@
 mod blob_events;
 mod blob_requests;
 mod blob_table;
+mod chunks;
 mod messages;
 mod phases;
 mod recording;
