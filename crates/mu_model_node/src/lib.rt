@@ -67,5 +67,5 @@ pub enum FlashWork {
     /// A bank is begun: its mark page is erased, then a record is written.
     Begun { is_long: bool },
     /// A block is put: its pages are erased and programmed, then its mark is set.
-    PutBlock { pages: u32 },
+    PutBlock { pages: usize },
 }

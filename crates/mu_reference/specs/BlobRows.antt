@@ -2,7 +2,7 @@
 use Rattle.std.specs.Prelude.{ℕ, ◌≡◌, ◌<◌, List, length, Option, None, Some, []}
 use Rattle.mu_model_node.specs.declared.Parameters.{Parameters}
 use Rattle.mu_model_node.specs.BlobServer.{CurrentBlock, Session, unlinked, heard_at, linked, Server, BlobPhase, NextChunk, Change, Same, Begins, Drops}
-use Rattle.mu_model_node.specs.BlobTable.{Served, silently, tell, tell_block, receives, to_client}
+use Rattle.mu_model_node.specs.BlobTable.{Served, silently, tell, tell_block, receives, completes, to_client}
 use Rattle.mu_model_node.specs.NodeState.{Job, NodeState}
 use Rattle.mu_model_node.specs.Slots.{empty, put}
 use Rattle.mu_reference.specs.View.{session_of, serving_of}
@@ -75,3 +75,15 @@ time_stepped v (Ask chunks) = record {
   change = Same;
   replies = to_client v.session.client chunks.items;
 }
+
+-- what comes of a block whose chunks are all there
+abbrev pub completed_with : NodeState → Parameters → Option CurrentBlock → Served
+completed_with s p None = silently s.session
+completed_with s p (Some c) = completes s.session p c c.chunks
+
+abbrev pub completed_by : NodeState → Parameters → Served
+completed_by s p = completed_with s p s.session.current
+
+abbrev pub HasBlock : Option CurrentBlock → Option Job → Type 0
+HasBlock (Some c) (Some j) = c.number < length j.held
+HasBlock _ _ = ⊥

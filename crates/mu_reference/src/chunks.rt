@@ -1,10 +1,10 @@
 // What a node does with a chunk.
-ghost use Rattle.std.specs.Prelude.{◌≡◌, ◌<◌, ◌^◌, length, IfOk};
+ghost use Rattle.std.specs.Prelude.{◌≡◌, ◌<◌, length, IfOk, None};
 ghost use Rattle.mu_model_image.specs.Pieces.{piece_count};
 ghost use Rattle.mu_model_node.specs.Slots.{put, is_full};
-ghost use Rattle.mu_model_node.specs.NodeState.{server_of, blob_phase};
-ghost use Rattle.mu_reference.specs.View.{there, job_of, current_of, state_of};
-ghost use Rattle.mu_reference.specs.BlobRows.{received_by, HasPlace};
+ghost use Rattle.mu_model_node.specs.NodeState.{server_of};
+ghost use Rattle.mu_reference.specs.View.{current_of, state_of};
+ghost use Rattle.mu_reference.specs.BlobRows.{completed_by, HasBlock};
 ghost use Rattle.mu_reference.specs.Outcomes.{ServedAs};
 
 use crate::blob_events::Served;
@@ -16,11 +16,19 @@ use arrayvec::ArrayVec;
 use mu_model_node::{FlashWork, LastBlock, Parameters};
 use std::alloc::{AllocError, Global};
 
-fn pages_of(octets: usize) -> u32
-    requires { octets < 2 ^ 31 }
+fn pages_of(octets: usize) -> usize
     ensures { result ≡ piece_count octets 4096 }
 {
-    (octets as u32 + 4095) / 4096
+    octets / 4096 + usize::from(octets % 4096 != 0)
+}
+
+fn nothing() -> Served
+    ensures { result ≡ record { reply = None; work = FlashWork.Untouched } }
+{
+    Served {
+        reply: None,
+        work: FlashWork::Untouched,
+    }
 }
 
 impl CurrentBlock {
@@ -32,5 +40,42 @@ impl CurrentBlock {
         let piece = Octets::new(Vec::from_slice(alloc, octets)?);
         self.chunks.put(usize::from(chunk), piece);
         Ok(self.chunks.is_full())
+    }
+}
+
+impl State {
+    /// All chunks are there: the block is held.
+    fn complete(&mut self, alloc: Global, parameters: Parameters) -> Result<Served, Stop>
+        requires { HasBlock (state_of self.old).session.current (state_of self.old).durable.job }
+        ensures { ServedAs (state_of self.old) (completed_by (state_of self.old) parameters) result (state_of self.new) }
+    {
+        let Some(current) = self.session.current.take() else {
+            return Ok(nothing());
+        };
+        let Ok(block) = current.chunks.joined(alloc) else {
+            return Err(Stop::NoMemory);
+        };
+        let pages = pages_of(block.len());
+        if let Some(job) = &mut self.job {
+            job.held.put(usize::from(current.number), Octets::new(block));
+        }
+        self.session.last = Some(LastBlock {
+            number: current.number,
+            chunk_size: current.chunk_size,
+        });
+        self.session.report = None;
+        let reply = match self.session.client {
+            Some(client) if parameters.mode == 2 => Some((
+                client,
+                BlobReply::PartialBlockReport {
+                    chunks: ArrayVec::new(),
+                },
+            )),
+            _ => None,
+        };
+        Ok(Served {
+            reply,
+            work: FlashWork::PutBlock { pages },
+        })
     }
 }
