@@ -3,3 +3,4 @@ pub mod View
 pub mod Messages
 pub mod BlobRows
 pub mod Outcomes
+pub mod UpdateRows

@@ -5,6 +5,7 @@
 mod blob_events;
 mod blob_requests;
 mod blob_table;
+mod blob_time;
 mod chunks;
 mod messages;
 mod phases;
@@ -12,6 +13,7 @@ mod recording;
 mod session;
 mod slots;
 mod timing;
+mod update_table;
 mod values;
 
 pub use blob_events::{Served, transfer_reply};
@@ -21,4 +23,5 @@ pub use phases::{BlobPhase, Serving, UpdatePhase, blob_phase, serving_at, update
 pub use recording::Stop;
 pub use slots::{Octets, Slots};
 pub use timing::{TimeStep, is_late, on_server_time};
+pub use update_table::Updated;
 pub use values::{CurrentBlock, Image, Job, PullReport, Session, State};
