@@ -3,6 +3,7 @@ ghost use Rattle.std.specs.Prelude.{◌≡◌};
 ghost use Rattle.mu_model_node.specs.BlobServer.{serving_phase};
 ghost use Rattle.mu_model_node.specs.NodeState.{link_phase, filling_phase, job_phase, serving_in};
 ghost use Rattle.mu_reference.specs.View.{there, job_of, session_of, update_phase_of, serving_of, blob_phase_of};
+ghost use Rattle.mu_reference.specs.UpdateRows.{JobIs};
 
 use crate::values::{CurrentBlock, Job, Session};
 use mu_model_node::{Link, Parameters, Stored};
@@ -39,7 +40,8 @@ pub enum BlobPhase<'a> {
 }
 
 fn linked<'a>(job: &'a Job, link: Link) -> UpdatePhase<'a>
-    ensures { update_phase_of result ≡ link_phase (job_of job.now) link }
+    ensures phase { update_phase_of result ≡ link_phase (job_of job.now) link }
+    ensures job { JobIs (update_phase_of result) (Some (job_of job.now)) }
 {
     match link {
         Link::Cut => UpdatePhase::TransferError(job),
@@ -48,7 +50,8 @@ fn linked<'a>(job: &'a Job, link: Link) -> UpdatePhase<'a>
 }
 
 fn filling<'a>(job: &'a Job, link: Link) -> UpdatePhase<'a>
-    ensures { update_phase_of result ≡ filling_phase (job_of job.now) link job.now.parameters }
+    ensures phase { update_phase_of result ≡ filling_phase (job_of job.now) link job.now.parameters }
+    ensures job { JobIs (update_phase_of result) (Some (job_of job.now)) }
 {
     if job.parameters.is_some() && job.held.is_full() {
         UpdatePhase::Verifying(job)
@@ -59,7 +62,8 @@ fn filling<'a>(job: &'a Job, link: Link) -> UpdatePhase<'a>
 
 /// The phase of the update that a node has.
 pub fn update_phase<'a>(job: &'a Option<Job>, link: Link) -> UpdatePhase<'a>
-    ensures { update_phase_of result ≡ job_phase link (there job_of job.now) }
+    ensures phase { update_phase_of result ≡ job_phase link (there job_of job.now) }
+    ensures job { JobIs (update_phase_of result) (there job_of job.now) }
 {
     match job {
         None => UpdatePhase::Idle,

@@ -1,16 +1,22 @@
 // The table of a Firmware Update Server: a function for each message.
-ghost use Rattle.std.specs.Prelude.{ℕ, ◌≡◌, ◌≤◌, length, map, take, drop};
-ghost use Rattle.mu_model_image.specs.Meta.{meta_from, firmware_id, own_company};
+ghost use Rattle.std.specs.Prelude.{ℕ, ◌≡◌, ◌<◌};
+ghost use Rattle.mu_model_node.specs.BlobServer.{unlinked, made_ready};
+ghost use Rattle.mu_model_node.specs.NodeOutcome.{with_session, with_job};
+ghost use Rattle.mu_model_node.specs.Events.{last_count};
 ghost use Rattle.mu_model_node.specs.NodeState.{update_phase, update_number};
-ghost use Rattle.mu_model_node.specs.UpdateTable.{update_status, same_meta, same_start, check};
+ghost use Rattle.mu_model_node.specs.UpdateTable.{update_status, same_meta, same_start, new_job, check, takes, on_update, on_update_start, on_update_cancel, on_update_apply};
 ghost use Rattle.mu_reference.specs.View.{there, job_of, state_of, update_phase_of};
 ghost use Rattle.mu_reference.specs.Messages.{update_reply_of, update_start_of};
+ghost use Rattle.mu_reference.specs.UpdateRows.{JobIs, UpdatedAs, update_stepped, start_stepped};
 
 use crate::messages::{ShownJob, UpdateReply, UpdateStart};
 use crate::phases::{UpdatePhase, update_phase};
+use crate::recording::Stop;
+use crate::slots::Slots;
 use crate::values::{Job, State};
 use mu_image::{Meta, meta_from};
-use mu_model_node::FlashWork;
+use mu_model_node::{FlashWork, Stored};
+use std::alloc::Global;
 
 /// What came of an update message.
 #[derive(Drop)]
@@ -18,6 +24,16 @@ pub struct Updated {
     /// The reply to its source.
     pub reply: UpdateReply,
     pub work: FlashWork,
+}
+
+/// What a row of the table does.
+#[derive(Clone, Copy)]
+pub enum UpdateStep {
+    MakeReady,
+    Hear,
+    Lose,
+    Apply,
+    Answer(u8),
 }
 
 fn number_of<'a>(phase: UpdatePhase<'a>) -> u8
@@ -55,7 +71,8 @@ fn is_same_start(asked: UpdateStart, job: &Job) -> bool
 impl State {
     /// The phase of the update.
     pub fn update_phase<'a>(&'a self) -> UpdatePhase<'a>
-        ensures { update_phase_of result ≡ update_phase (state_of self.now) }
+        ensures phase { update_phase_of result ≡ update_phase (state_of self.now) }
+        ensures job { JobIs (update_phase_of result) (state_of self.now).durable.job }
     {
         update_phase(&self.job, self.session.link)
     }
@@ -94,5 +111,81 @@ impl State {
             Some(meta) if meta.size <= self.capacity && meta.version > active.meta.version => Ok(meta),
             _ => Err(5),
         }
+    }
+
+    fn start_step(&self, asked: UpdateStart) -> Option<UpdateStep>
+        ensures { (to : ℕ) → on_update_start (state_of self.now) to (update_start_of asked.entry) (update_phase (state_of self.now)) ≡ start_stepped (state_of self.now) to (update_start_of asked.entry) result }
+    {
+        match self.update_phase() {
+            UpdatePhase::Idle | UpdatePhase::Failed(_) => None,
+            UpdatePhase::TransferError(job) => {
+                if is_same_start(asked, job) { Some(UpdateStep::MakeReady) } else { None }
+            }
+            UpdatePhase::TransferActive(job) => {
+                if is_same_start(asked, job) { Some(UpdateStep::Hear) } else { Some(UpdateStep::Answer(2)) }
+            }
+            UpdatePhase::Verifying(job) | UpdatePhase::Succeeded(job) | UpdatePhase::Applying(job) => {
+                if is_same_start(asked, job) { Some(UpdateStep::Answer(0)) } else { Some(UpdateStep::Answer(2)) }
+            }
+        }
+    }
+
+    fn cancel_step(&self) -> UpdateStep
+        ensures { (to : ℕ) → on_update_cancel (state_of self.now) to (update_phase (state_of self.now)) ≡ update_stepped (state_of self.now) to result }
+    {
+        match self.update_phase() {
+            UpdatePhase::Idle => UpdateStep::Answer(0),
+            UpdatePhase::Applying(_) => UpdateStep::Answer(2),
+            _ => UpdateStep::Lose,
+        }
+    }
+
+    fn apply_step(&self) -> UpdateStep
+        ensures { (to : ℕ) → on_update_apply (state_of self.now) to (update_phase (state_of self.now)) ≡ update_stepped (state_of self.now) to result }
+    {
+        match self.update_phase() {
+            UpdatePhase::Succeeded(_) => UpdateStep::Apply,
+            UpdatePhase::Applying(_) => UpdateStep::Answer(0),
+            _ => UpdateStep::Answer(2),
+        }
+    }
+
+    fn take(&mut self, alloc: Global, from: u16, asked: UpdateStart) -> Result<Updated, Stop>
+        ensures { UpdatedAs (state_of self.old) from (takes (state_of self.old) from (update_start_of asked.entry)) result (state_of self.new) }
+    {
+        match self.check(asked.index, asked.metadata) {
+            Err(status) => Ok(Updated {
+                reply: self.update_answer(status),
+                work: FlashWork::Untouched,
+            }),
+            Ok(_) if self.is_at_last_record() => Err(Stop::Worn),
+            Ok(meta) => {
+                self.write_job(alloc, asked, meta);
+                Ok(Updated {
+                    reply: self.update_answer(0),
+                    work: FlashWork::Recorded { is_long: false },
+                })
+            }
+        }
+    }
+
+    fn write_job(&mut self, alloc: Global, asked: UpdateStart, meta: Meta)
+        requires { self.old.count < last_count }
+        ensures { state_of self.new ≡ with_session (with_job (state_of self.old) (new_job (update_start_of asked.entry) meta)) (made_ready self.old.moment (unlinked (state_of self.old).session)) }
+    {
+        self.job = Some(Job {
+            id: asked.id,
+            index: asked.index,
+            meta,
+            ttl: asked.ttl,
+            base: asked.base,
+            stored: Stored::Filling,
+            parameters: None,
+            held: Slots::none(alloc),
+        });
+        self.record();
+        self.session.unlink();
+        let now = self.moment;
+        self.session.make_ready(now);
     }
 }
