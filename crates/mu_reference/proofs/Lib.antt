@@ -3,3 +3,4 @@ pub mod Asked
 pub mod Changes
 pub mod Answered
 pub mod Received
+pub mod Images

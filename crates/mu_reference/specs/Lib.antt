@@ -4,3 +4,4 @@ pub mod Messages
 pub mod BlobRows
 pub mod Outcomes
 pub mod UpdateRows
+pub mod NodeRows
