@@ -33,6 +33,10 @@ JobIs (Succeeded j) job = job ≡ Some j
 JobIs (Failed j) job = job ≡ Some j
 JobIs (Applying j) job = job ≡ Some j
 
+abbrev pub marked_applied : NodeState → Option Job → NodeState
+marked_applied s None = s
+marked_applied s (Some j) = with_job s (record j { stored = Applied })
+
 abbrev pub applied_with : NodeState → ℕ → Option Job → Outcome
 applied_with s to None = answer s Untouched to success
 applied_with s to (Some j) = answer (with_job s (record j { stored = Applied })) (Recorded false) to success

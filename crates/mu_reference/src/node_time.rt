@@ -159,12 +159,12 @@ pub fn serving(done: Served) -> Done
     ensures replies { replies_of result.reply ≡ map by_blob (blob_replies_of done.reply) }
     ensures work { result.work ≡ done.work }
 {
-    let reply = match done.reply {
-        None => None,
-        Some((to, reply)) => Some((to, Reply::Serving(reply))),
-    };
-    Done {
-        reply,
-        work: done.work,
+    let Served { reply, work } = done;
+    match reply {
+        None => Done { reply: None, work },
+        Some((to, reply)) => Done {
+            reply: Some((to, Reply::Serving(reply))),
+            work,
+        },
     }
 }

@@ -1,13 +1,14 @@
 // The table of a Firmware Update Server: a function for each message.
-ghost use Rattle.std.specs.Prelude.{ℕ, ◌≡◌, ◌<◌};
+ghost use Rattle.std.specs.Prelude.{ℕ, ◌≡◌, ◌<◌, false};
 ghost use Rattle.mu_model_node.specs.BlobServer.{unlinked, made_ready};
 ghost use Rattle.mu_model_node.specs.NodeOutcome.{with_session, with_job};
 ghost use Rattle.mu_model_node.specs.Events.{last_count};
 ghost use Rattle.mu_model_node.specs.NodeState.{update_phase, update_number};
-ghost use Rattle.mu_model_node.specs.UpdateTable.{update_status, same_meta, same_start, new_job, check, takes, on_update, on_update_start, on_update_cancel, on_update_apply};
+ghost use Rattle.mu_model_node.specs.UpdateTable.{update_status, same_meta, same_start, new_job, check, without_job, takes, on_update, on_update_start, on_update_cancel, on_update_apply};
 ghost use Rattle.mu_reference.specs.View.{there, job_of, state_of, update_phase_of};
 ghost use Rattle.mu_reference.specs.Messages.{update_reply_of, update_start_of};
-ghost use Rattle.mu_reference.specs.UpdateRows.{JobIs, UpdatedAs, update_stepped, start_stepped};
+ghost use Rattle.mu_reference.specs.UpdateRows.{JobIs, UpdatedAs, update_stepped, start_stepped, marked_applied};
+ghost use Rattle.mu_model_node.specs.UpdateMessages.{MetadataCheck, UpdateGet, StartUpdate, UpdateCancel, UpdateApply};
 
 use crate::messages::{ShownJob, UpdateReply, UpdateStart};
 use crate::phases::{UpdatePhase, update_phase};
@@ -187,5 +188,133 @@ impl State {
         self.session.unlink();
         let now = self.moment;
         self.session.make_ready(now);
+    }
+
+    fn lose(&mut self)
+        requires { self.old.count < last_count }
+        ensures { state_of self.new ≡ without_job (state_of self.old) }
+    {
+        self.job = None;
+        self.record();
+        self.session.unlink();
+    }
+
+    fn answer(&self, status: u8) -> Updated
+        ensures reply { update_reply_of result.reply ≡ update_status status (state_of self.now) }
+        ensures work { result.work ≡ FlashWork.Untouched }
+    {
+        Updated {
+            reply: self.update_answer(status),
+            work: FlashWork::Untouched,
+        }
+    }
+
+    fn recorded_answer(&self) -> Updated
+        ensures reply { update_reply_of result.reply ≡ update_status 0 (state_of self.now) }
+        ensures work { result.work ≡ FlashWork.Recorded false }
+    {
+        Updated {
+            reply: self.update_answer(0),
+            work: FlashWork::Recorded { is_long: false },
+        }
+    }
+
+    fn lose_counted(&mut self, from: u16) -> Result<Updated, Stop>
+        ensures { UpdatedAs (state_of self.old) from (update_stepped (state_of self.old) from UpdateStep.Lose) result (state_of self.new) }
+    {
+        if self.is_at_last_record() {
+            return Err(Stop::Worn);
+        }
+        self.lose();
+        Ok(self.recorded_answer())
+    }
+
+    fn mark_applied(&mut self)
+        requires { self.old.count < last_count }
+        ensures { state_of self.new ≡ marked_applied (state_of self.old) (state_of self.old).durable.job }
+    {
+        if let Some(job) = &mut self.job {
+            job.stored = Stored::Applied;
+            self.record();
+        }
+    }
+
+    fn apply_counted(&mut self, from: u16) -> Result<Updated, Stop>
+        ensures { UpdatedAs (state_of self.old) from (update_stepped (state_of self.old) from UpdateStep.Apply) result (state_of self.new) }
+    {
+        if self.job.is_none() {
+            return Ok(self.answer(0));
+        }
+        if self.is_at_last_record() {
+            return Err(Stop::Worn);
+        }
+        self.mark_applied();
+        Ok(self.recorded_answer())
+    }
+
+    fn do_step(&mut self, from: u16, step: UpdateStep) -> Result<Updated, Stop>
+        ensures { UpdatedAs (state_of self.old) from (update_stepped (state_of self.old) from step) result (state_of self.new) }
+    {
+        match step {
+            UpdateStep::MakeReady => {
+                let now = self.moment;
+                self.session.make_ready(now);
+                Ok(self.answer(0))
+            }
+            UpdateStep::Hear => {
+                self.session.heard = self.moment;
+                Ok(self.answer(0))
+            }
+            UpdateStep::Lose => self.lose_counted(from),
+            UpdateStep::Apply => self.apply_counted(from),
+            UpdateStep::Answer(status) => Ok(self.answer(status)),
+        }
+    }
+
+    /// Firmware Update Start.
+    pub fn on_update_start(&mut self, alloc: Global, from: u16, asked: UpdateStart) -> Result<Updated, Stop>
+        ensures { UpdatedAs (state_of self.old) from (on_update (state_of self.old) from (StartUpdate (update_start_of asked.entry))) result (state_of self.new) }
+    {
+        match self.start_step(asked) {
+            None => self.take(alloc, from, asked),
+            Some(step) => self.do_step(from, step),
+        }
+    }
+
+    /// Firmware Update Cancel.
+    pub fn on_update_cancel(&mut self, from: u16) -> Result<Updated, Stop>
+        ensures { UpdatedAs (state_of self.old) from (on_update (state_of self.old) from UpdateCancel) result (state_of self.new) }
+    {
+        let step = self.cancel_step();
+        self.do_step(from, step)
+    }
+
+    /// Firmware Update Apply.
+    pub fn on_update_apply(&mut self, from: u16) -> Result<Updated, Stop>
+        ensures { UpdatedAs (state_of self.old) from (on_update (state_of self.old) from UpdateApply) result (state_of self.new) }
+    {
+        let step = self.apply_step();
+        self.do_step(from, step)
+    }
+
+    /// Firmware Update Get.
+    pub fn on_update_get(&self) -> Updated
+        ensures { (from : ℕ) → UpdatedAs (state_of self.now) from (on_update (state_of self.now) from UpdateGet) (Ok result) (state_of self.now) }
+    {
+        self.answer(0)
+    }
+
+    /// Firmware Update Firmware Metadata Check.
+    pub fn on_metadata_check(&self, index: u8, metadata: &[u8]) -> Updated
+        ensures { (from : ℕ) → UpdatedAs (state_of self.now) from (on_update (state_of self.now) from (MetadataCheck index metadata.now)) (Ok result) (state_of self.now) }
+    {
+        let status = match self.check(index, metadata) {
+            Ok(_) => 0,
+            Err(status) => status,
+        };
+        Updated {
+            reply: UpdateReply::MetadataStatus { status, index },
+            work: FlashWork::Untouched,
+        }
     }
 }
