@@ -4,3 +4,4 @@ pub mod Changes
 pub mod Answered
 pub mod Received
 pub mod Images
+pub mod Ids
