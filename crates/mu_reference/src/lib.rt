@@ -7,6 +7,7 @@ mod blob_requests;
 mod blob_table;
 mod blob_time;
 mod chunks;
+mod information;
 mod messages;
 mod node;
 mod node_time;
