@@ -2,6 +2,9 @@
 use Rattle.std.specs.Prelude.{List, map}
 use Rattle.mu_model_node.specs.BlobMessages.{BlobRequest, BlobInformationGet, TransferGet, TransferStart, TransferCancel, BlockStart, BlockGet, ChunkTransfer, BlobReply, BlobInformationStatus, TransferStatus, BlockStatus, PartialBlockReport}
 use Rattle.mu_model_node.specs.UpdateMessages.{UpdateStart, UpdateRequest, InformationGet, MetadataCheck, UpdateGet, StartUpdate, UpdateCancel, UpdateApply, ShownJob, UpdateReply, InformationStatus, MetadataStatus, UpdateStatus}
+use Rattle.mu_model_node.specs.NodeMessages.{Request, OfUpdate, OfBlob}
+use Rattle.mu_reference.specs.declared.messages.Request.{Request as RequestHere}
+use Rattle.mu_reference.specs.declared.messages.Request.TheVariants.{Update, Blob}
 use Rattle.mu_reference.specs.View.{there}
 use Rattle.mu_reference.specs.declared.messages.BlobRequest.{BlobRequest as BlobRequestHere}
 use Rattle.mu_reference.specs.declared.messages.BlobRequest.TheVariants.{BlobInformationGet as BlobInformationGetHere, TransferGet as TransferGetHere, TransferStart as TransferStartHere, TransferCancel as TransferCancelHere, BlockStart as BlockStartHere, BlockGet as BlockGetHere, ChunkTransfer as ChunkTransferHere}
@@ -47,3 +50,7 @@ abbrev pub update_reply_of : UpdateReplyHere → UpdateReply
 update_reply_of (InformationStatusHere count first ids) = InformationStatus count first (map (λ id. id.items) ids.items)
 update_reply_of (MetadataStatusHere status index) = MetadataStatus status index
 update_reply_of (UpdateStatusHere status phase job) = UpdateStatus status phase (there shown_job_of job)
+
+abbrev pub request_of : RequestHere → Request
+request_of (Update request) = OfUpdate (update_request_of request)
+request_of (Blob request) = OfBlob (blob_request_of request)

@@ -109,3 +109,10 @@ pub enum UpdateReply {
         job: Option<ShownJob>,
     },
 }
+
+/// A message that a node takes.
+#[derive(Drop)]
+pub enum Request<'a> {
+    Update(UpdateRequest<'a>),
+    Blob(BlobRequest<'a>),
+}

@@ -1,15 +1,22 @@
 // What an event comes to at a node.
-ghost use Rattle.std.specs.Prelude.{◌≡◌};
+ghost use Rattle.std.specs.Prelude.{◌≡◌, [], ◌∷◌};
 ghost use Rattle.mu_model_node.specs.BlobTable.{on_blob};
+ghost use Rattle.mu_model_node.specs.UpdateTable.{on_update};
+ghost use Rattle.mu_model_node.specs.Events.{on_request};
+ghost use Rattle.mu_model_node.specs.NodeMessages.{ByUpdate};
 ghost use Rattle.mu_model_node.specs.NodeState.{server_of};
-ghost use Rattle.mu_model_node.specs.Sound.{BlobRequestFits, IsNodeState};
+ghost use Rattle.mu_model_node.specs.Sound.{BlobRequestFits, RequestFits, IsNodeState};
 ghost use Rattle.mu_reference.specs.View.{state_of};
-ghost use Rattle.mu_reference.specs.Messages.{blob_request_of};
+ghost use Rattle.mu_reference.specs.Messages.{blob_request_of, update_request_of, request_of, update_reply_of};
 ghost use Rattle.mu_reference.specs.Outcomes.{ServedAs};
+ghost use Rattle.mu_reference.specs.UpdateRows.{UpdatedAs};
+ghost use Rattle.mu_reference.specs.NodeRows.{DoneAs, replies_of};
 
 use crate::blob_events::Served;
-use crate::messages::{BlobReply, BlobRequest, UpdateReply};
+use crate::messages::{BlobReply, BlobRequest, Request, UpdateReply, UpdateRequest};
+use crate::node_time::serving;
 use crate::recording::Stop;
+use crate::update_table::Updated;
 use crate::values::State;
 use mu_model_node::FlashWork;
 use std::alloc::Global;
@@ -51,5 +58,46 @@ impl State {
                 self.on_chunk_transfer(alloc, from, chunk, octets)
             }
         }
+    }
+}
+
+impl State {
+    /// An update message of a source.
+    pub fn on_update<'a>(&mut self, alloc: Global, from: u16, request: UpdateRequest<'a>) -> Result<Updated, Stop>
+        requires { IsNodeState (state_of self.old) }
+        ensures { UpdatedAs (state_of self.old) from (on_update (state_of self.old) from (update_request_of request.entry)) result (state_of self.new) }
+    {
+        match request {
+            UpdateRequest::InformationGet { first, limit } => Ok(self.on_information_get(first, limit)),
+            UpdateRequest::MetadataCheck { index, metadata } => Ok(self.on_metadata_check(index, metadata)),
+            UpdateRequest::UpdateGet => Ok(self.on_update_get()),
+            UpdateRequest::StartUpdate(asked) => self.on_update_start(alloc, from, asked),
+            UpdateRequest::UpdateCancel => self.on_update_cancel(from),
+            UpdateRequest::UpdateApply => self.on_update_apply(from),
+        }
+    }
+
+    /// A message of a source.
+    pub fn take_request<'a>(&mut self, alloc: Global, from: u16, request: Request<'a>) -> Result<Done, Stop>
+        requires sound { IsNodeState (state_of self.old) }
+        requires fits { RequestFits (request_of request) }
+        ensures { DoneAs (state_of self.old) (on_request (state_of self.old) from (request_of request.entry)) result (state_of self.new) }
+    {
+        match request {
+            Request::Update(request) => Ok(updating(from, self.on_update(alloc, from, request)?)),
+            Request::Blob(request) => Ok(serving(self.on_blob(alloc, from, request)?)),
+        }
+    }
+}
+
+/// What the update table did.
+pub fn updating(to: u16, done: Updated) -> Done
+    ensures replies { replies_of result.reply ≡ (to, ByUpdate (update_reply_of done.reply)) ∷ [] }
+    ensures work { result.work ≡ done.work }
+{
+    let Updated { reply, work } = done;
+    Done {
+        reply: Some((to, Reply::Updating(reply))),
+        work,
     }
 }
