@@ -5,3 +5,4 @@ pub mod BlobRows
 pub mod Outcomes
 pub mod UpdateRows
 pub mod NodeRows
+pub mod Reference

@@ -37,9 +37,9 @@ fn ids(images: &[Image], first: usize, limit: usize) -> ArrayVec<Fwid, 2>
 
 impl State {
     /// Firmware Update Information Get.
-    pub fn on_information_get(&self, first: u8, limit: u8) -> Updated
+    pub fn on_information_get(&self, from: u16, first: u8, limit: u8) -> Updated
         requires { IsNodeState (state_of self.now) }
-        ensures { (from : ℕ) → UpdatedAs (state_of self.now) from (on_update (state_of self.now) from (InformationGet first limit)) (Ok result) (state_of self.now) }
+        ensures { UpdatedAs (state_of self.now) from (on_update (state_of self.now) from (InformationGet first limit)) (Ok result) (state_of self.now) }
     {
         let reply = UpdateReply::InformationStatus {
             count: self.images.len() as u8,

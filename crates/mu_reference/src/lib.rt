@@ -13,6 +13,7 @@ mod node;
 mod node_time;
 mod phases;
 mod recording;
+mod reference;
 mod session;
 mod slots;
 mod timing;
@@ -25,6 +26,7 @@ pub use messages::{BlobReply, BlobRequest, Request, ShownJob, UpdateReply, Updat
 pub use node::{Done, Reply};
 pub use phases::{BlobPhase, Serving, UpdatePhase, blob_phase, serving_at, update_phase};
 pub use recording::Stop;
+pub use reference::Node;
 pub use slots::{Octets, Slots};
 pub use timing::{TimeStep, is_late, on_server_time};
 pub use update_table::Updated;

@@ -68,9 +68,9 @@ impl State {
         ensures { UpdatedAs (state_of self.old) from (on_update (state_of self.old) from (update_request_of request.entry)) result (state_of self.new) }
     {
         match request {
-            UpdateRequest::InformationGet { first, limit } => Ok(self.on_information_get(first, limit)),
-            UpdateRequest::MetadataCheck { index, metadata } => Ok(self.on_metadata_check(index, metadata)),
-            UpdateRequest::UpdateGet => Ok(self.on_update_get()),
+            UpdateRequest::InformationGet { first, limit } => Ok(self.on_information_get(from, first, limit)),
+            UpdateRequest::MetadataCheck { index, metadata } => Ok(self.on_metadata_check(from, index, metadata)),
+            UpdateRequest::UpdateGet => Ok(self.on_update_get(from)),
             UpdateRequest::StartUpdate(asked) => self.on_update_start(alloc, from, asked),
             UpdateRequest::UpdateCancel => self.on_update_cancel(from),
             UpdateRequest::UpdateApply => self.on_update_apply(from),

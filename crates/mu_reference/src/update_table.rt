@@ -298,15 +298,15 @@ impl State {
     }
 
     /// Firmware Update Get.
-    pub fn on_update_get(&self) -> Updated
-        ensures { (from : ℕ) → UpdatedAs (state_of self.now) from (on_update (state_of self.now) from UpdateGet) (Ok result) (state_of self.now) }
+    pub fn on_update_get(&self, from: u16) -> Updated
+        ensures { UpdatedAs (state_of self.now) from (on_update (state_of self.now) from UpdateGet) (Ok result) (state_of self.now) }
     {
         self.answer(0)
     }
 
     /// Firmware Update Firmware Metadata Check.
-    pub fn on_metadata_check(&self, index: u8, metadata: &[u8]) -> Updated
-        ensures { (from : ℕ) → UpdatedAs (state_of self.now) from (on_update (state_of self.now) from (MetadataCheck index metadata.now)) (Ok result) (state_of self.now) }
+    pub fn on_metadata_check(&self, from: u16, index: u8, metadata: &[u8]) -> Updated
+        ensures { UpdatedAs (state_of self.now) from (on_update (state_of self.now) from (MetadataCheck index metadata.now)) (Ok result) (state_of self.now) }
     {
         let status = match self.check(index, metadata) {
             Ok(_) => 0,
