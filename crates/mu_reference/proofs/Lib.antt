@@ -5,3 +5,4 @@ pub mod Answered
 pub mod Received
 pub mod Images
 pub mod Ids
+pub mod Ran
