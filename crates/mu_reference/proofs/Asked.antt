@@ -1,5 +1,5 @@
 -- Steps of the loop over missing chunks.
-use Rattle.std.proofs.Common.{◌≡◌, ◌<◌, ℕ, zero, suc, ◌+◌, Bool, true, false, List, [], ◌∷◌, ◌++◌, length, take, refl, sym, ap, ◌∙◌, cond, arith, ◌≤◌, ◌⊎◌, inl, inr, append-nil, add-one, length-append}
+use Rattle.std.proofs.Common.{◌≡◌, ◌<◌, ℕ, zero, suc, ◌+◌, Bool, true, false, List, [], ◌∷◌, ◌++◌, length, take, ap, ◌∙◌, cond, arith, ◌≤◌, ◌⊎◌, inl, inr, append-nil, add-one, length-append}
 use Rattle.std.specs.Prelude.{◌&&◌, nat_lt}
 use Rattle.std.specs.List.{range_with_len}
 use Rattle.std.specs.Prelude.{filter}

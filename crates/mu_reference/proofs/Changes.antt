@@ -1,7 +1,7 @@
 -- Changes of what is kept and of the session don't meet.
-use Rattle.std.proofs.Common.{◌≡◌, ◌≤◌, ◌*◌, ℕ, refl, arith, Option, Some, None}
+use Rattle.std.proofs.Common.{◌≡◌, ◌≤◌, ◌*◌, refl, arith, Option, Some, None}
 use Rattle.mu_model_node.specs.BlobServer.{Session, Change, Same, Begins, Drops, Puts}
-use Rattle.mu_model_node.specs.NodeState.{Job, NodeDurable, NodeState}
+use Rattle.mu_model_node.specs.NodeState.{Job, NodeState}
 use Rattle.mu_model_node.specs.NodeOutcome.{with_session, job_after}
 use Rattle.mu_model_node.specs.Sound.{IsNodeState}
 

@@ -1,5 +1,5 @@
 -- Images by index.
-use Rattle.std.proofs.Common.{◌≡◌, ◌≤◌, ℕ, zero, suc, List, [], ◌∷◌, length, map, set, refl, sym, ap, arith}
+use Rattle.std.proofs.Common.{◌≡◌, ◌≤◌, ℕ, zero, suc, List, [], ◌∷◌, length, map, set, refl, ap, arith}
 use Rattle.std.proofs.lemmas.List.{map-set}
 use Rattle.mu_model_image.specs.Meta.{Image}
 use Rattle.mu_reference.specs.View.{image_of}

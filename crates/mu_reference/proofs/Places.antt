@@ -1,5 +1,5 @@
 -- Steps of the loops over places.
-use Rattle.std.proofs.Common.{◌≡◌, ◌<◌, ℕ, zero, suc, ◌+◌, Bool, true, false, List, [], ◌∷◌, ◌++◌, length, take, set, replicate, get_or, refl, sym, ap, subst, ◌∙◌, cond, arith, Option, Some, None, append_assoc, append-nil, add-one}
+use Rattle.std.proofs.Common.{◌≡◌, ◌<◌, ℕ, zero, suc, ◌+◌, Bool, true, false, List, [], ◌∷◌, ◌++◌, length, take, set, replicate, get_or, refl, sym, ap, ◌∙◌, cond, arith, Option, Some, None, append_assoc, append-nil, add-one}
 use Rattle.std.specs.Prelude.{is_none}
 use Rattle.mu_model_node.specs.Slots.{Slots, missing, joined}
 use Rattle.mu_reference.specs.Words.{piece_at}

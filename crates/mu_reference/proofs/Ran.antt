@@ -1,5 +1,5 @@
 -- A time event at a sound node.
-use Rattle.std.proofs.Common.{◌≡◌, ℕ, sym, subst, Result, Ok}
+use Rattle.std.proofs.Common.{◌≡◌, ℕ, sym, subst, Result}
 use Rattle.mu_model_node.specs.NodeState.{NodeState, update_phase}
 use Rattle.mu_model_node.specs.TimeTable.{on_time}
 use Rattle.mu_model_node.specs.Events.{at_moment}

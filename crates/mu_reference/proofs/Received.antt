@@ -1,12 +1,12 @@
 -- A chunk that is received has its place.
-use Rattle.std.proofs.Common.{◌≡◌, ◌<◌, ℕ, List, length, refl, sym, subst, ◌∙◌, ap, Option, Some, None, Result, Ok}
+use Rattle.std.proofs.Common.{◌≡◌, ◌<◌, ℕ, List, length, refl, sym, subst, ◌∙◌, ap, Some, None, Result, Ok}
 use Rattle.mu_model_node.specs.declared.Parameters.{Parameters}
-use Rattle.mu_model_node.specs.BlobServer.{Session, Transfer, CurrentBlock, BlobPhase, Inactive, WaitingForStart, NextBlock, NextChunk, Complete, Suspended}
+use Rattle.mu_model_node.specs.BlobServer.{Session, Transfer, CurrentBlock, BlobPhase, NextChunk}
 use Rattle.mu_model_node.specs.NodeState.{Job, NodeState, server_of, blob_phase}
 use Rattle.mu_model_node.specs.declared.FlashWork.TheVariants.{Untouched}
 use Rattle.mu_model_node.specs.BlobTable.{Served, silently}
 use Rattle.mu_model_node.specs.NodeOutcome.{with_session}
-use Rattle.mu_model_node.specs.Sound.{IsNodeState, IsPhase, IsComing}
+use Rattle.mu_model_node.specs.Sound.{IsNodeState, IsPhase}
 use Rattle.mu_model_node.specs.Laws.{PhasesAreSound, WaitsForChunks, ChunksAreOfTheJob}
 use Rattle.mu_reference.specs.declared.blob_table.ChunkStep.TheVariants.{Receive}
 use Rattle.mu_reference.specs.declared.recording.Stop.{Stop}

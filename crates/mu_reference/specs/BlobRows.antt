@@ -1,5 +1,5 @@
 -- What the functions of the BLOB table return, as the model's outcomes.
-use Rattle.std.specs.Prelude.{ℕ, ◌≡◌, ◌<◌, List, length, Option, None, Some, []}
+use Rattle.std.specs.Prelude.{ℕ, ◌≡◌, ◌<◌, List, length, Option, None, Some}
 use Rattle.mu_model_node.specs.declared.Parameters.{Parameters}
 use Rattle.mu_model_node.specs.BlobServer.{CurrentBlock, Session, unlinked, heard_at, linked, Server, BlobPhase, NextChunk, Change, Same, Begins, Drops}
 use Rattle.mu_model_node.specs.BlobTable.{Served, silently, tell, tell_block, receives, completes, to_client}

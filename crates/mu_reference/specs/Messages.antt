@@ -1,5 +1,5 @@
 -- Messages in memory as the model's messages.
-use Rattle.std.specs.Prelude.{List, map}
+use Rattle.std.specs.Prelude.{map}
 use Rattle.mu_model_node.specs.BlobMessages.{BlobRequest, BlobInformationGet, TransferGet, TransferStart, TransferCancel, BlockStart, BlockGet, ChunkTransfer, BlobReply, BlobInformationStatus, TransferStatus, BlockStatus, PartialBlockReport}
 use Rattle.mu_model_node.specs.UpdateMessages.{UpdateStart, UpdateRequest, InformationGet, MetadataCheck, UpdateGet, StartUpdate, UpdateCancel, UpdateApply, ShownJob, UpdateReply, InformationStatus, MetadataStatus, UpdateStatus}
 use Rattle.mu_model_node.specs.NodeMessages.{Request, OfUpdate, OfBlob}

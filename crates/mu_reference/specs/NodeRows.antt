@@ -1,5 +1,5 @@
 -- What an event came to at the node here, as the model's outcome.
-use Rattle.std.specs.Prelude.{ℕ, ◌≡◌, ◌==◌, ◌&&◌, Bool, true, false, List, [], ◌∷◌, map, Option, Some, None, Result, Ok, Err}
+use Rattle.std.specs.Prelude.{ℕ, ◌≡◌, ◌==◌, ◌&&◌, Bool, true, false, List, [], ◌∷◌, Option, Some, None, Result, Ok, Err}
 use Rattle.mu_model_image.specs.Meta.{is_fit}
 use Rattle.mu_model_node.specs.declared.FlashWork.TheVariants.{Untouched, Recorded}
 use Rattle.mu_model_node.specs.Slots.{joined}

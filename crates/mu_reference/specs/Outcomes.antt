@@ -12,7 +12,7 @@ use Rattle.mu_reference.specs.Messages.{blob_reply_of}
 use Rattle.mu_reference.specs.declared.recording.Stop.{Stop}
 use Rattle.mu_reference.specs.declared.recording.Stop.TheVariants.{NoMemory, Worn}
 use Rattle.mu_reference.specs.declared.blob_table.TransferChange.{TransferChange}
-use Rattle.mu_reference.specs.declared.blob_table.TransferChange.TheVariants.{Nothing, Begin, Drop}
+use Rattle.mu_reference.specs.declared.blob_table.TransferChange.TheVariants.{Begin}
 use Rattle.mu_reference.specs.declared.messages.BlobReply.{BlobReply as BlobReplyHere}
 use Rattle.mu_reference.specs.declared.blob_events.Served.{Served as ServedHere}
 

@@ -1,5 +1,5 @@
 -- The node in memory as the model's node.
-use Rattle.std.specs.Prelude.{ℕ, List, map, Option, Some, None}
+use Rattle.std.specs.Prelude.{map, Option, Some, None}
 use Rattle.mu_model_image.specs.Meta.{Image}
 use Rattle.mu_model_node.specs.BlobServer.{CurrentBlock, PullReport, Session, BlobPhase, Inactive, WaitingForStart, NextBlock, NextChunk, Complete, Suspended, Serving, NoJob, Lacking, Whole}
 use Rattle.mu_model_node.specs.NodeState.{Job, NodeState, UpdatePhase, Idle, TransferError, TransferActive, Verifying, Succeeded, Failed, Applying, transfer_of}

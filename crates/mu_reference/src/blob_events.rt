@@ -117,7 +117,12 @@ impl State {
     }
 
     #[tactic(auto, using(crate::proofs::Changes::same_after, crate::proofs::Changes::small_capacity))]
-    fn change_transfer(&mut self, alloc: Global, parameters: Parameters, change: TransferChange) -> Result<FlashWork, Stop>
+    fn change_transfer(
+        &mut self,
+        alloc: Global,
+        parameters: Parameters,
+        change: TransferChange,
+    ) -> Result<FlashWork, Stop>
         requires sound { IsNodeState (state_of self.old) }
         requires some { 1 ≤ parameters.size }
         requires within { BeginsWithin self.old.capacity parameters change }
@@ -134,7 +139,13 @@ impl State {
 impl State {
     /// Does what a Transfer row says, its reply apart.
     #[tactic(auto, using(crate::proofs::Changes::session_after, crate::proofs::Changes::session_kept))]
-    pub fn apply(&mut self, alloc: Global, from: u16, parameters: Parameters, told: Told) -> Result<FlashWork, Stop>
+    pub fn apply(
+        &mut self,
+        alloc: Global,
+        from: u16,
+        parameters: Parameters,
+        told: Told,
+    ) -> Result<FlashWork, Stop>
         requires sound { IsNodeState (state_of self.old) }
         requires some { 1 ≤ parameters.size }
         requires within { BeginsWithin self.old.capacity parameters told.change }

@@ -11,7 +11,9 @@ ghost use Rattle.mu_reference.specs.BlobRows.{told_by, block_told_by};
 ghost use Rattle.mu_reference.specs.Outcomes.{BeginsWithin, ServedAs};
 
 use crate::blob_events::{Served, transfer_reply};
-use crate::blob_table::{BlockTold, Told, on_block_get, on_block_start, on_transfer_cancel, on_transfer_start};
+use crate::blob_table::{
+    BlockTold, Told, on_block_get, on_block_start, on_transfer_cancel, on_transfer_start,
+};
 use crate::messages::BlobReply;
 use crate::phases::BlobPhase;
 use crate::recording::Stop;
@@ -86,7 +88,13 @@ impl State {
     }
 
     /// BLOB Transfer Start.
-    pub fn on_transfer_start(&mut self, alloc: Global, from: u16, id: u64, parameters: Parameters) -> Result<Served, Stop>
+    pub fn on_transfer_start(
+        &mut self,
+        alloc: Global,
+        from: u16,
+        id: u64,
+        parameters: Parameters,
+    ) -> Result<Served, Stop>
         requires sound { IsNodeState (state_of self.old) }
         requires range { AreInRange parameters }
         ensures { ServedAs (state_of self.old) (on_blob (server_of (state_of self.old)) from (TransferStart id parameters)) result (state_of self.new) }
@@ -156,7 +164,13 @@ impl State {
     }
 
     /// BLOB Block Start.
-    pub fn on_block_start(&mut self, alloc: Global, from: u16, block: u16, chunk_size: u16) -> Result<Served, Stop>
+    pub fn on_block_start(
+        &mut self,
+        alloc: Global,
+        from: u16,
+        block: u16,
+        chunk_size: u16,
+    ) -> Result<Served, Stop>
         requires { IsNodeState (state_of self.old) }
         ensures { ServedAs (state_of self.old) (on_blob (server_of (state_of self.old)) from (BlockStart block chunk_size)) result (state_of self.new) }
     {

@@ -17,12 +17,19 @@ use mu_model_node::{Link, Parameters};
 use mu_report::{Report, report_of};
 
 const SUCCESS: u8 = 0;
+
 const INVALID_BLOCK_NUMBER: u8 = 1;
+
 const INVALID_BLOCK_SIZE: u8 = 2;
+
 const INVALID_CHUNK_SIZE: u8 = 3;
+
 const WRONG_PHASE: u8 = 4;
+
 const INVALID_PARAMETER: u8 = 5;
+
 const WRONG_BLOB_ID: u8 = 6;
+
 const BLOB_TOO_LARGE: u8 = 7;
 
 /// What the rows see.
@@ -143,7 +150,12 @@ fn resume<'a>(server: Server<'a>, parameters: Parameters, present: Parameters) -
     }
 }
 
-fn repeat<'a>(server: Server<'a>, heard: SessionChange, parameters: Parameters, job: &'a Job) -> Told
+fn repeat<'a>(
+    server: Server<'a>,
+    heard: SessionChange,
+    parameters: Parameters,
+    job: &'a Job,
+) -> Told
     ensures within { BeginsWithin server.entry.capacity parameters result.change }
     ensures told { (to : ℕ) → repeats (server_of server.entry) (session_by heard server.entry.now to (server_of server.entry).session) to parameters (transfer_of (job_of job.now)) ≡ told_by (server_of server.entry) to parameters result }
 {
@@ -154,7 +166,12 @@ fn repeat<'a>(server: Server<'a>, heard: SessionChange, parameters: Parameters, 
 }
 
 /// BLOB Transfer Start.
-pub fn on_transfer_start<'a>(server: Server<'a>, id: u64, parameters: Parameters, phase: BlobPhase<'a>) -> Told
+pub fn on_transfer_start<'a>(
+    server: Server<'a>,
+    id: u64,
+    parameters: Parameters,
+    phase: BlobPhase<'a>,
+) -> Told
     ensures within { BeginsWithin server.entry.capacity parameters result.change }
     ensures told { (to : ℕ) → on_transfer_start (server_of server.entry) to id parameters (blob_phase_of phase.entry) ≡ told_by (server_of server.entry) to parameters result }
 {
@@ -194,7 +211,13 @@ pub fn on_transfer_cancel<'a>(server: Server<'a>, id: u64) -> Told
     }
 }
 
-fn block_told(session: SessionChange, status: u8, block: u16, chunk_size: u16, report: Report) -> BlockTold
+fn block_told(
+    session: SessionChange,
+    status: u8,
+    block: u16,
+    chunk_size: u16,
+    report: Report,
+) -> BlockTold
     ensures { result ≡ record { session = session; status = status; block = block; chunk_size = chunk_size; report = report } }
 {
     BlockTold {
@@ -214,9 +237,18 @@ fn open_or_hold(parameters: Parameters, job: &Job, block: u16, chunk_size: u16) 
     ensures { (v : ServerModel) (to : ℕ) → (if is_some (at job.now.held block) then held_again v to block chunk_size else opens v to parameters block chunk_size) ≡ block_told_by v to result }
 {
     if job.held.has(usize::from(block)) {
-        block_told(SessionChange::Holds { block, chunk_size }, SUCCESS, block, chunk_size, Report::Nothing)
+        block_told(
+            SessionChange::Holds { block, chunk_size },
+            SUCCESS,
+            block,
+            chunk_size,
+            Report::Nothing,
+        )
     } else {
-        let count = chunk_count(block_len(parameters.size, parameters.log, block), chunk_size);
+        let count = chunk_count(
+            block_len(parameters.size, parameters.log, block),
+            chunk_size,
+        );
         let opens = SessionChange::Opens {
             block,
             chunk_size,
@@ -232,9 +264,21 @@ fn next_block(parameters: Parameters, job: &Job, block: u16, chunk_size: u16) ->
 {
     let most = parameters.mtu.saturating_sub(4).min(376);
     if usize::from(block) >= job.held.len() {
-        block_told(SessionChange::Keeps, INVALID_BLOCK_NUMBER, block, chunk_size, Report::All)
+        block_told(
+            SessionChange::Keeps,
+            INVALID_BLOCK_NUMBER,
+            block,
+            chunk_size,
+            Report::All,
+        )
     } else if chunk_size < 8 || chunk_size > most {
-        block_told(SessionChange::Keeps, INVALID_CHUNK_SIZE, block, chunk_size, Report::All)
+        block_told(
+            SessionChange::Keeps,
+            INVALID_CHUNK_SIZE,
+            block,
+            chunk_size,
+            Report::All,
+        )
     } else {
         open_or_hold(parameters, job, block, chunk_size)
     }
@@ -247,10 +291,23 @@ pub fn on_block_start<'a>(block: u16, chunk_size: u16, phase: BlobPhase<'a>) -> 
 {
     match phase {
         BlobPhase::NextBlock(job, parameters) => next_block(parameters, job, block, chunk_size),
-        BlobPhase::NextChunk(_, _, current) if block == current.number && chunk_size == current.chunk_size => {
-            block_told(SessionChange::Hears, SUCCESS, block, chunk_size, report_of(&current.chunks.missing()))
+        BlobPhase::NextChunk(_, _, current)
+            if block == current.number && chunk_size == current.chunk_size => {
+            block_told(
+                SessionChange::Hears,
+                SUCCESS,
+                block,
+                chunk_size,
+                report_of(&current.chunks.missing()),
+            )
         }
-        _ => block_told(SessionChange::Keeps, WRONG_PHASE, block, chunk_size, Report::All),
+        _ => block_told(
+            SessionChange::Keeps,
+            WRONG_PHASE,
+            block,
+            chunk_size,
+            Report::All,
+        ),
     }
 }
 
@@ -259,7 +316,13 @@ fn told_last<'a>(server: Server<'a>, heard: SessionChange) -> BlockTold
 {
     match server.session.last {
         None => block_told(SessionChange::Keeps, WRONG_PHASE, 0, 0, Report::All),
-        Some(last) => block_told(heard, SUCCESS, last.number, last.chunk_size, Report::Nothing),
+        Some(last) => block_told(
+            heard,
+            SUCCESS,
+            last.number,
+            last.chunk_size,
+            Report::Nothing,
+        ),
     }
 }
 
@@ -271,7 +334,13 @@ pub fn on_block_get<'a>(server: Server<'a>, phase: BlobPhase<'a>) -> BlockTold
     match phase {
         BlobPhase::NextChunk(_, _, current) => {
             let report = report_of(&current.chunks.missing());
-            block_told(SessionChange::Hears, SUCCESS, current.number, current.chunk_size, report)
+            block_told(
+                SessionChange::Hears,
+                SUCCESS,
+                current.number,
+                current.chunk_size,
+                report,
+            )
         }
         BlobPhase::NextBlock(..) => told_last(server, SessionChange::Hears),
         BlobPhase::Complete(_) => told_last(server, SessionChange::Keeps),

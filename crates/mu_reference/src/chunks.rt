@@ -63,7 +63,8 @@ impl State {
         };
         let pages = pages_of(block.len());
         if let Some(job) = &mut self.job {
-            job.held.put(usize::from(current.number), Octets::new(block));
+            job.held
+                .put(usize::from(current.number), Octets::new(block));
         }
         self.session.last = Some(LastBlock {
             number: current.number,
@@ -88,7 +89,13 @@ impl State {
 
 impl State {
     /// A chunk is received.
-    fn receive(&mut self, alloc: Global, parameters: Parameters, chunk: u16, octets: &[u8]) -> Result<Served, Stop>
+    fn receive(
+        &mut self,
+        alloc: Global,
+        parameters: Parameters,
+        chunk: u16,
+        octets: &[u8],
+    ) -> Result<Served, Stop>
         requires { HasPlace chunk (state_of self.old).session.current (state_of self.old).durable.job }
         ensures { ServedAs (state_of self.old) (received_by (state_of self.old) parameters chunk octets.now) result (state_of self.new) }
     {
@@ -113,7 +120,13 @@ impl State {
     }
 
     /// BLOB Chunk Transfer.
-    pub fn on_chunk_transfer(&mut self, alloc: Global, from: u16, chunk: u16, octets: &[u8]) -> Result<Served, Stop>
+    pub fn on_chunk_transfer(
+        &mut self,
+        alloc: Global,
+        from: u16,
+        chunk: u16,
+        octets: &[u8],
+    ) -> Result<Served, Stop>
         requires { IsNodeState (state_of self.old) }
         ensures { ServedAs (state_of self.old) (on_blob (server_of (state_of self.old)) from (ChunkTransfer chunk octets.now)) result (state_of self.new) }
     {

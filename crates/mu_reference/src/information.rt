@@ -44,7 +44,11 @@ impl State {
         let reply = UpdateReply::InformationStatus {
             count: self.images.len() as u8,
             first,
-            ids: ids(self.images.as_slice(), usize::from(first), usize::from(limit)),
+            ids: ids(
+                self.images.as_slice(),
+                usize::from(first),
+                usize::from(limit),
+            ),
         };
         Updated {
             reply,

@@ -22,7 +22,9 @@ mod values;
 
 pub use blob_events::{Served, transfer_reply};
 pub use blob_table::{BlockTold, ChunkStep, Server, SessionChange, Told, TransferChange};
-pub use messages::{BlobReply, BlobRequest, Request, ShownJob, UpdateReply, UpdateRequest, UpdateStart};
+pub use messages::{
+    BlobReply, BlobRequest, Request, ShownJob, UpdateReply, UpdateRequest, UpdateStart,
+};
 pub use node::{Done, Reply};
 pub use phases::{BlobPhase, Serving, UpdatePhase, blob_phase, serving_at, update_phase};
 pub use recording::Stop;

@@ -9,22 +9,11 @@ use mu_report::{NumberSet, Report};
 pub enum BlobRequest<'a> {
     BlobInformationGet,
     TransferGet,
-    TransferStart {
-        id: u64,
-        parameters: Parameters,
-    },
-    TransferCancel {
-        id: u64,
-    },
-    BlockStart {
-        block: u16,
-        chunk_size: u16,
-    },
+    TransferStart { id: u64, parameters: Parameters },
+    TransferCancel { id: u64 },
+    BlockStart { block: u16, chunk_size: u16 },
     BlockGet,
-    ChunkTransfer {
-        chunk: u16,
-        octets: &'a [u8],
-    },
+    ChunkTransfer { chunk: u16, octets: &'a [u8] },
 }
 
 /// What a BLOB Transfer Server answers.
@@ -68,14 +57,8 @@ pub struct UpdateStart<'a> {
 /// A message that a Firmware Update Server takes.
 #[derive(Drop)]
 pub enum UpdateRequest<'a> {
-    InformationGet {
-        first: u8,
-        limit: u8,
-    },
-    MetadataCheck {
-        index: u8,
-        metadata: &'a [u8],
-    },
+    InformationGet { first: u8, limit: u8 },
+    MetadataCheck { index: u8, metadata: &'a [u8] },
     UpdateGet,
     StartUpdate(UpdateStart<'a>),
     UpdateCancel,

@@ -38,7 +38,12 @@ pub struct Done {
 
 impl State {
     /// A BLOB message of a source.
-    pub fn on_blob<'a>(&mut self, alloc: Global, from: u16, request: BlobRequest<'a>) -> Result<Served, Stop>
+    pub fn on_blob<'a>(
+        &mut self,
+        alloc: Global,
+        from: u16,
+        request: BlobRequest<'a>,
+    ) -> Result<Served, Stop>
         requires sound { IsNodeState (state_of self.old) }
         requires fits { BlobRequestFits (blob_request_of request) }
         ensures { ServedAs (state_of self.old) (on_blob (server_of (state_of self.old)) from (blob_request_of request.entry)) result (state_of self.new) }
@@ -63,13 +68,22 @@ impl State {
 
 impl State {
     /// An update message of a source.
-    pub fn on_update<'a>(&mut self, alloc: Global, from: u16, request: UpdateRequest<'a>) -> Result<Updated, Stop>
+    pub fn on_update<'a>(
+        &mut self,
+        alloc: Global,
+        from: u16,
+        request: UpdateRequest<'a>,
+    ) -> Result<Updated, Stop>
         requires { IsNodeState (state_of self.old) }
         ensures { UpdatedAs (state_of self.old) from (on_update (state_of self.old) from (update_request_of request.entry)) result (state_of self.new) }
     {
         match request {
-            UpdateRequest::InformationGet { first, limit } => Ok(self.on_information_get(from, first, limit)),
-            UpdateRequest::MetadataCheck { index, metadata } => Ok(self.on_metadata_check(from, index, metadata)),
+            UpdateRequest::InformationGet { first, limit } => Ok(self.on_information_get(
+                from, first, limit,
+            )),
+            UpdateRequest::MetadataCheck { index, metadata } => Ok(self.on_metadata_check(
+                from, index, metadata,
+            )),
             UpdateRequest::UpdateGet => Ok(self.on_update_get(from)),
             UpdateRequest::StartUpdate(asked) => self.on_update_start(alloc, from, asked),
             UpdateRequest::UpdateCancel => self.on_update_cancel(from),
@@ -78,7 +92,12 @@ impl State {
     }
 
     /// A message of a source.
-    pub fn take_request<'a>(&mut self, alloc: Global, from: u16, request: Request<'a>) -> Result<Done, Stop>
+    pub fn take_request<'a>(
+        &mut self,
+        alloc: Global,
+        from: u16,
+        request: Request<'a>,
+    ) -> Result<Done, Stop>
         requires sound { IsNodeState (state_of self.old) }
         requires fits { RequestFits (request_of request) }
         ensures { DoneAs (state_of self.old) (on_request (state_of self.old) from (request_of request.entry)) result (state_of self.new) }

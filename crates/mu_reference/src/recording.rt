@@ -55,7 +55,10 @@ impl State {
         ensures ok { IfOk result (λ _. state_of self.new ≡ job_after (state_of self.old) (Begins parameters) (there job_of self.old.job)) }
         ensures err { OnErr result (self.new ≡ self.old) }
     {
-        let held = Slots::empty(alloc, usize::from(block_count(parameters.size, parameters.log)))?;
+        let held = Slots::empty(
+            alloc,
+            usize::from(block_count(parameters.size, parameters.log)),
+        )?;
         if let Some(job) = &mut self.job {
             job.parameters = Some(parameters);
             job.held = held;

@@ -82,7 +82,13 @@ impl Node {
     }
 
     /// A message of a source, at a moment in milliseconds. A node that stops is gone.
-    pub fn on_request<'a>(self, alloc: Global, from: u16, request: Request<'a>, now: u64) -> Result<(Node, Done), Stop>
+    pub fn on_request<'a>(
+        self,
+        alloc: Global,
+        from: u16,
+        request: Request<'a>,
+        now: u64,
+    ) -> Result<(Node, Done), Stop>
         requires { RequestFits (request_of request) }
         ensures { RanAs (at_moment self now) (on_request (at_moment self now) from (request_of request.entry)) result }
     {

@@ -45,7 +45,13 @@ impl Session {
     }
 
     /// Does what a row says. Without memory nothing changes.
-    pub fn change(&mut self, alloc: Global, change: SessionChange, now: u64, from: u16) -> Result<(), AllocError>
+    pub fn change(
+        &mut self,
+        alloc: Global,
+        change: SessionChange,
+        now: u64,
+        from: u16,
+    ) -> Result<(), AllocError>
         ensures ok { IfOk result (λ _. session_of self.new ≡ session_by change now from (session_of self.old)) }
         ensures err { OnErr result (self.new ≡ self.old) }
     {

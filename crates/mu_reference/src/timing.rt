@@ -40,7 +40,9 @@ fn is_second_past(moment: u64, now: u64) -> bool
 fn is_any_missing(chunks: &[u16], current: &CurrentBlock) -> bool
     ensures { result ≡ list_any (λ k. is_none (at current.now.chunks k)) chunks.now }
 {
-    chunks.iter().any(|chunk| !current.chunks.has(usize::from(*chunk)))
+    chunks
+        .iter()
+        .any(|chunk| !current.chunks.has(usize::from(*chunk)))
 }
 
 /// Whether a Partial Block Report is due.
@@ -49,7 +51,8 @@ fn is_report_due(last: &Option<PullReport>, current: &CurrentBlock, now: u64) ->
 {
     match last {
         None => true,
-        Some(last) => !is_any_missing(last.chunks.as_slice(), current) || is_second_past(last.moment, now),
+        Some(last) => !is_any_missing(last.chunks.as_slice(), current)
+            || is_second_past(last.moment, now),
     }
 }
 

@@ -63,7 +63,10 @@ fn is_same_start(asked: UpdateStart, job: &Job) -> bool
     match meta_from(asked.metadata) {
         None => false,
         Some(meta) => {
-            asked.ttl == job.ttl && asked.base == job.base && asked.id == job.id && asked.index == job.index
+            asked.ttl == job.ttl
+                && asked.base == job.base
+                && asked.id == job.id
+                && asked.index == job.index
                 && is_same_meta(&meta, &job.meta)
         }
     }
@@ -109,7 +112,9 @@ impl State {
             return Err(4);
         };
         match meta_from(metadata) {
-            Some(meta) if meta.size <= self.capacity && meta.version > active.meta.version => Ok(meta),
+            Some(meta) if meta.size <= self.capacity && meta.version > active.meta.version => Ok(
+                meta,
+            ),
             _ => Err(5),
         }
     }
@@ -120,13 +125,27 @@ impl State {
         match self.update_phase() {
             UpdatePhase::Idle | UpdatePhase::Failed(_) => None,
             UpdatePhase::TransferError(job) => {
-                if is_same_start(asked, job) { Some(UpdateStep::MakeReady) } else { None }
+                if is_same_start(asked, job) {
+                    Some(UpdateStep::MakeReady)
+                } else {
+                    None
+                }
             }
             UpdatePhase::TransferActive(job) => {
-                if is_same_start(asked, job) { Some(UpdateStep::Hear) } else { Some(UpdateStep::Answer(2)) }
+                if is_same_start(asked, job) {
+                    Some(UpdateStep::Hear)
+                } else {
+                    Some(UpdateStep::Answer(2))
+                }
             }
-            UpdatePhase::Verifying(job) | UpdatePhase::Succeeded(job) | UpdatePhase::Applying(job) => {
-                if is_same_start(asked, job) { Some(UpdateStep::Answer(0)) } else { Some(UpdateStep::Answer(2)) }
+            UpdatePhase::Verifying(job)
+            | UpdatePhase::Succeeded(job)
+            | UpdatePhase::Applying(job) => {
+                if is_same_start(asked, job) {
+                    Some(UpdateStep::Answer(0))
+                } else {
+                    Some(UpdateStep::Answer(2))
+                }
             }
         }
     }
@@ -272,7 +291,12 @@ impl State {
     }
 
     /// Firmware Update Start.
-    pub fn on_update_start(&mut self, alloc: Global, from: u16, asked: UpdateStart) -> Result<Updated, Stop>
+    pub fn on_update_start(
+        &mut self,
+        alloc: Global,
+        from: u16,
+        asked: UpdateStart,
+    ) -> Result<Updated, Stop>
         ensures { UpdatedAs (state_of self.old) from (on_update (state_of self.old) from (StartUpdate (update_start_of asked.entry))) result (state_of self.new) }
     {
         match self.start_step(asked) {

@@ -1,4 +1,4 @@
-use Rattle.std.proofs.Common.{◌≡◌, ◌≤◌, ◌-◌, map}
+use Rattle.std.proofs.Common.{◌≡◌, ◌-◌, map}
 use Rattle.arrayvec.specs.ArrayVec.{array_vec_len}
 use Rattle.mu_reference.specs.View.{image_of}
 use Rattle.mu_reference.specs.Words.{ids_of}

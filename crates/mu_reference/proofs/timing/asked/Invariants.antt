@@ -1,4 +1,4 @@
-use Rattle.std.proofs.Common.{◌≡◌, take}
+use Rattle.std.proofs.Common.{◌≡◌}
 use Rattle.mu_reference.proofs.Asked.{first_asked}
 use Rattle.mu_reference.proofs.timing.asked.Given as goal
 

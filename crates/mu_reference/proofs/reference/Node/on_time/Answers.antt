@@ -1,5 +1,4 @@
-use Rattle.std.proofs.Common.{◌≡◌, Ok, ap, sym, ◌∙◌}
-use Rattle.mu_model_node.specs.NodeState.{NodeState}
+use Rattle.std.proofs.Common.{◌≡◌, Ok}
 use Rattle.mu_model_node.specs.Events.{at_moment}
 use Rattle.mu_reference.specs.View.{state_of}
 use Rattle.mu_reference.proofs.Ran.{moment_sound, time_sound, time_done_so}

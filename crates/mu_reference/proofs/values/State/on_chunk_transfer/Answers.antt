@@ -1,8 +1,6 @@
-use Rattle.std.proofs.Common.{◌≡◌, refl, subst, ◌∙◌}
+use Rattle.std.proofs.Common.{refl, ◌∙◌}
 use Rattle.mu_model_node.specs.BlobServer.{heard_at}
-use Rattle.mu_model_node.specs.NodeState.{server_of, blob_phase}
 use Rattle.mu_reference.specs.View.{state_of, session_of}
-use Rattle.mu_reference.specs.BlobRows.{ReceivesWithin, chunk_stepped}
 use Rattle.mu_reference.proofs.Received.{placed, received_here, served_same, served_as}
 use Rattle.mu_reference.proofs.values.State.on_chunk_transfer.Goals as goal
 

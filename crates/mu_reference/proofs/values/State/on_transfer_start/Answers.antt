@@ -1,7 +1,6 @@
-use Rattle.std.proofs.Common.{sym, ap, ◌∙◌}
 use Rattle.mu_model_node.specs.BlobMessages.{TransferStart}
 use Rattle.mu_reference.specs.View.{state_of}
-use Rattle.mu_reference.proofs.Answered.{sound_after, told_reply, done_so}
+use Rattle.mu_reference.proofs.Answered.{sound_after, done_so}
 use Rattle.mu_reference.proofs.values.State.on_transfer_start.Goals as goal
 
 pub transfer_answer-reply-requires : goal.transfer_answer-reply-requires

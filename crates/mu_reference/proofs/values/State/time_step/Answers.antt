@@ -1,5 +1,3 @@
-use Rattle.std.proofs.Common.{◌∙◌, sym, ap}
-use Rattle.mu_model_node.specs.BlobServer.{server_phase}
 use Rattle.mu_reference.specs.View.{state_of}
 use Rattle.mu_reference.proofs.Answered.{phase_sound}
 use Rattle.mu_reference.proofs.values.State.time_step.Goals as goal
