@@ -6,3 +6,4 @@ pub mod Received
 pub mod Images
 pub mod Ids
 pub mod Ran
+pub mod Fresh

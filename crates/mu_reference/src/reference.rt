@@ -1,6 +1,7 @@
 // A node that keeps its states sound.
-ghost use Rattle.std.specs.Prelude.{◌≡◌, ◌*◌, map, None};
-ghost use Rattle.mu_model_node.specs.NodeState.{restarted, update_phase};
+ghost use Rattle.std.specs.Prelude.{◌≡◌, ◌≤◌, ◌*◌, length, map, None, IfOk};
+ghost use Rattle.mu_model_node.specs.NodeState.{new_node, restarted, update_phase};
+ghost use Rattle.mu_model_image.specs.Meta.{image_of as image_with};
 ghost use Rattle.mu_model_node.specs.Events.{at_moment, on_request};
 ghost use Rattle.mu_model_node.specs.TimeTable.{on_time};
 ghost use Rattle.mu_model_node.specs.FlashWork.{page_octets};
@@ -13,8 +14,9 @@ use crate::messages::Request;
 use crate::node::Done;
 use crate::recording::Stop;
 use crate::values::{Image, Session, State};
+use mu_image::{Digesting, Meta};
 use mu_model_node::laws::states_are_sound;
-use std::alloc::Global;
+use std::alloc::{AllocError, Global};
 use std::marker::Model;
 
 /// A node as plain values, seen as the model's node.
@@ -71,6 +73,27 @@ impl Node {
                 moment: 0,
             },
         }
+    }
+
+    /// A new node with banks of so many pages, whose one image is these octets at a version.
+    #[tactic(auto, using(crate::proofs::Fresh::new_is_sound))]
+    pub fn with_image(alloc: Global, pages: u16, version: u32, octets: Vec<u8>) -> Result<Node, AllocError>
+        requires pages_least { 1 ≤ pages }
+        requires pages_most { pages ≤ 256 }
+        requires some { 1 ≤ length octets.items }
+        requires room { length octets.items ≤ 4096 * pages }
+        ensures { IfOk result (λ node. node ≡ restarted (new_node pages (image_with version octets.items))) }
+    {
+        let mut digesting = Digesting::new();
+        digesting.take(&octets);
+        let meta = Meta {
+            size: octets.len() as u32,
+            version,
+            digest: digesting.done(),
+        };
+        let mut images = Vec::new(alloc);
+        images.push(Image { octets, meta })?;
+        Ok(Node::new(pages, 2, images))
     }
 
     /// The power goes and comes: what isn't kept is lost.
