@@ -1,5 +1,5 @@
 -- A new node is sound.
-use Rattle.std.proofs.Common.{◌≡◌, ◌≤◌, ◌*◌, ℕ, zero, suc, List, [], ◌∷◌, length, refl, sym, subst, ap, arith, Some}
+use Rattle.std.proofs.Common.{◌≡◌, ◌≤◌, ◌*◌, ℕ, zero, suc, List, [], ◌∷◌, length, refl, subst, arith, Some}
 use Rattle.std.specs.Prelude.{slice_get}
 use Rattle.mu_model_image.specs.Meta.{Image, image_of}
 use Rattle.mu_model_node.specs.NodeState.{new_node}

@@ -16,6 +16,8 @@ mod recording;
 mod reference;
 mod session;
 mod slots;
+#[cfg(test)]
+mod tests;
 mod timing;
 mod update_table;
 mod values;

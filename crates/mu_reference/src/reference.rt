@@ -77,7 +77,12 @@ impl Node {
 
     /// A new node with banks of so many pages, whose one image is these octets at a version.
     #[tactic(auto, using(crate::proofs::Fresh::new_is_sound))]
-    pub fn with_image(alloc: Global, pages: u16, version: u32, octets: Vec<u8>) -> Result<Node, AllocError>
+    pub fn with_image(
+        alloc: Global,
+        pages: u16,
+        version: u32,
+        octets: Vec<u8>,
+    ) -> Result<Node, AllocError>
         requires pages_least { 1 ≤ pages }
         requires pages_most { pages ≤ 256 }
         requires some { 1 ≤ length octets.items }
