@@ -1,6 +1,6 @@
 -- The node's table: what each message does at a node, one definition a row.
 use Rattle.std.specs.Prelude.{ℕ, List, [], ◌∷◌, length, map, take, drop}
-use Rattle.mu_model_image.specs.Meta.{Image, firmware_id, own_company}
+use Rattle.mu_model_image.specs.Meta.{firmware_id, own_company}
 use Rattle.mu_model_node.specs.Message.{Request, InformationGet, Reply, InformationStatus}
 use Rattle.mu_model_node.specs.Node.{NodeState}
 

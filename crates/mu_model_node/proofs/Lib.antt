@@ -1,0 +1,14 @@
+pub mod Order
+pub mod BlobRows
+pub mod Moves
+pub mod Kept
+pub mod Runs
+pub mod Places
+pub mod BlobSound
+pub mod NodeSound
+pub mod Steps
+pub mod Causes
+pub mod Ranges
+pub mod Told
+pub mod Phases
+pub mod Worked

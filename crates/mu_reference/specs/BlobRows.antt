@@ -1,0 +1,89 @@
+-- What the functions of the BLOB table return, as the model's outcomes.
+use Rattle.std.specs.Prelude.{ℕ, ◌≡◌, ◌<◌, List, length, Option, None, Some}
+use Rattle.mu_model_node.specs.declared.Parameters.{Parameters}
+use Rattle.mu_model_node.specs.BlobServer.{CurrentBlock, Session, unlinked, heard_at, linked, Server, BlobPhase, NextChunk, Change, Same, Begins, Drops}
+use Rattle.mu_model_node.specs.BlobTable.{Served, silently, tell, tell_block, receives, completes, to_client}
+use Rattle.mu_model_node.specs.NodeState.{Job, NodeState}
+use Rattle.mu_model_node.specs.Slots.{empty, put}
+use Rattle.mu_reference.specs.View.{session_of, serving_of}
+use Rattle.mu_reference.specs.declared.blob_table.Server.{Server as ServerHere}
+use Rattle.mu_reference.specs.declared.blob_table.SessionChange.{SessionChange}
+use Rattle.mu_reference.specs.declared.blob_table.SessionChange.TheVariants.{Keeps, Hears, Links, Unlinks, Holds, Opens}
+use Rattle.mu_reference.specs.declared.blob_table.TransferChange.{TransferChange}
+use Rattle.mu_reference.specs.declared.blob_table.TransferChange.TheVariants.{Nothing, Begin, Drop}
+use Rattle.mu_reference.specs.declared.blob_table.Told.{Told}
+use Rattle.mu_reference.specs.declared.blob_table.BlockTold.{BlockTold}
+use Rattle.mu_reference.specs.declared.timing.TimeStep.{TimeStep}
+use Rattle.mu_reference.specs.declared.timing.TimeStep.TheVariants.{Wait, Unlink, Ask}
+use Rattle.mu_reference.specs.declared.blob_table.ChunkStep.{ChunkStep}
+use Rattle.mu_reference.specs.declared.blob_table.ChunkStep.TheVariants.{PassOver, Hear, Receive}
+
+abbrev pub server_of : ServerHere → Server
+server_of v = record { capacity = v.capacity; serving = serving_of v.serving; session = session_of v.session.now; now = v.now }
+
+-- a session after a change, at a moment, by a packet's source
+abbrev pub session_by : SessionChange → ℕ → ℕ → Session → Session
+session_by Keeps now from l = l
+session_by Hears now from l = heard_at now l
+session_by Links now from l = linked now from l
+session_by Unlinks now from l = unlinked l
+session_by (Holds block size) now from l = heard_at now (record l { last = Some (record { number = block; chunk_size = size }) })
+session_by (Opens block size count) now from l = heard_at now (record l { current = Some (record { number = block; chunk_size = size; chunks = empty count }); report = None })
+
+abbrev pub change_by : Parameters → TransferChange → Change
+change_by p Nothing = Same
+change_by p Begin = Begins p
+change_by p Drop = Drops
+
+abbrev pub told_by : Server → ℕ → Parameters → Told → Served
+told_by v to p told = tell v (session_by told.session v.now to v.session) (change_by p told.change) to told.status
+
+abbrev pub block_told_by : Server → ℕ → BlockTold → Served
+block_told_by v to told = tell_block (session_by told.session v.now to v.session) to told.status told.block told.chunk_size told.report
+
+abbrev pub chunk_stepped : Server → ℕ → List ℕ → BlobPhase → ChunkStep → Served
+chunk_stepped v chunk octets phase PassOver = silently v.session
+chunk_stepped v chunk octets phase Hear = silently (heard_at v.now v.session)
+chunk_stepped v chunk octets (NextChunk t p c) (Receive q) = receives (heard_at v.now v.session) q c (put c.chunks chunk octets)
+chunk_stepped v chunk octets _ (Receive q) = silently v.session
+
+-- a chunk is received only where one is waited for, with these parameters and of such a number
+abbrev pub ReceivesWithin : ℕ → BlobPhase → ChunkStep → Type 0
+ReceivesWithin chunk (NextChunk t p c) (Receive q) = (p ≡ q) × (chunk < length c.chunks)
+ReceivesWithin chunk _ (Receive q) = ⊥
+ReceivesWithin chunk _ _ = Unit {0}
+
+-- what comes of a chunk that is received
+abbrev pub received_with : NodeState → Parameters → ℕ → List ℕ → Option CurrentBlock → Served
+received_with s p chunk octets None = silently s.session
+received_with s p chunk octets (Some c) = receives (heard_at s.moment s.session) p c (put c.chunks chunk octets)
+
+abbrev pub received_by : NodeState → Parameters → ℕ → List ℕ → Served
+received_by s p chunk octets = received_with s p chunk octets s.session.current
+
+-- there is the block, with such a chunk, and the job, with such a block
+abbrev pub HasPlace : ℕ → Option CurrentBlock → Option Job → Type 0
+HasPlace chunk (Some c) (Some j) = (chunk < length c.chunks) × (c.number < length j.held)
+HasPlace chunk _ _ = ⊥
+
+-- what is done as time passes
+abbrev pub time_stepped : Server → TimeStep → Served
+time_stepped v Wait = silently v.session
+time_stepped v Unlink = silently (unlinked v.session)
+time_stepped v (Ask chunks) = record {
+  session = record (v.session) { report = Some (record { moment = v.now; chunks = chunks.items }) };
+  change = Same;
+  replies = to_client v.session.client chunks.items;
+}
+
+-- what comes of a block whose chunks are all there
+abbrev pub completed_with : NodeState → Parameters → Option CurrentBlock → Served
+completed_with s p None = silently s.session
+completed_with s p (Some c) = completes s.session p c c.chunks
+
+abbrev pub completed_by : NodeState → Parameters → Served
+completed_by s p = completed_with s p s.session.current
+
+abbrev pub HasBlock : Option CurrentBlock → Option Job → Type 0
+HasBlock (Some c) (Some j) = c.number < length j.held
+HasBlock _ _ = ⊥

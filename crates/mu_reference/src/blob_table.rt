@@ -1,0 +1,380 @@
+// The table of a BLOB Transfer Server: a function for each message. It says what is to change and what is told.
+ghost use Rattle.std.specs.Prelude.{ℕ, ◌≡◌, ◌<◌, ◌≤◌, ◌==◌, if◌then◌else◌, is_some, length};
+ghost use Rattle.mu_model_image.specs.Pieces.{block_length, chunk_length};
+ghost use Rattle.mu_model_node.specs.Slots.{at};
+ghost use Rattle.mu_model_node.specs.BlobServer.{Server as ServerModel, Transfer, NextBlock, server_phase};
+ghost use Rattle.mu_model_node.specs.BlobTable.{starts, resumes, repeats, on_transfer_start, on_transfer_cancel, held_again, opens, on_block_start, tell_last, on_block_get, on_chunk_transfer};
+ghost use Rattle.mu_model_node.specs.NodeState.{transfer_of};
+ghost use Rattle.mu_model_node.specs.Sound.{IsTransfer, IsComing, IsPhase};
+ghost use Rattle.mu_reference.specs.View.{job_of, current_of, blob_phase_of};
+ghost use Rattle.mu_reference.specs.BlobRows.{server_of, session_by, told_by, block_told_by, chunk_stepped, ReceivesWithin};
+ghost use Rattle.mu_reference.specs.Outcomes.{BeginsWithin};
+
+use crate::phases::{BlobPhase, Serving, blob_phase};
+use crate::values::{CurrentBlock, Job, Session};
+use mu_arith::{block_len, chunk_count, chunk_len};
+use mu_model_node::{Link, Parameters};
+use mu_report::{Report, report_of};
+
+const SUCCESS: u8 = 0;
+
+const INVALID_BLOCK_NUMBER: u8 = 1;
+
+const INVALID_BLOCK_SIZE: u8 = 2;
+
+const INVALID_CHUNK_SIZE: u8 = 3;
+
+const WRONG_PHASE: u8 = 4;
+
+const INVALID_PARAMETER: u8 = 5;
+
+const WRONG_BLOB_ID: u8 = 6;
+
+const BLOB_TOO_LARGE: u8 = 7;
+
+/// What the rows see.
+#[derive(Clone, Copy)]
+pub struct Server<'a> {
+    /// Octets of a bank.
+    pub capacity: u32,
+    pub serving: Serving<'a>,
+    pub session: &'a Session,
+    /// The present moment, in milliseconds.
+    pub now: u64,
+}
+
+/// What a row does to the session.
+#[derive(Clone, Copy)]
+pub enum SessionChange {
+    Keeps,
+    Hears,
+    Links,
+    Unlinks,
+    Holds {
+        block: u16,
+        chunk_size: u16,
+    },
+    Opens {
+        block: u16,
+        chunk_size: u16,
+        count: u16,
+    },
+}
+
+/// What a row does to what is kept of the transfer.
+#[derive(Clone, Copy)]
+pub enum TransferChange {
+    Nothing,
+    Begin,
+    Drop,
+}
+
+/// What a row of Transfer Start or Transfer Cancel does, and the status that is told.
+#[derive(Clone, Copy)]
+pub struct Told {
+    pub session: SessionChange,
+    pub change: TransferChange,
+    pub status: u8,
+}
+
+/// What a row of Block Start or Block Get does, and the Block Status that is told.
+#[derive(Drop)]
+pub struct BlockTold {
+    pub session: SessionChange,
+    pub status: u8,
+    pub block: u16,
+    pub chunk_size: u16,
+    pub report: Report,
+}
+
+/// What is done with a chunk.
+#[derive(Clone, Copy)]
+pub enum ChunkStep {
+    PassOver,
+    Hear,
+    Receive(Parameters),
+}
+
+impl<'a> Server<'a> {
+    /// The phase of the transfer.
+    pub fn phase(self) -> BlobPhase<'a>
+        ensures { blob_phase_of result ≡ server_phase (server_of self.entry) }
+    {
+        blob_phase(self.serving, self.session)
+    }
+}
+
+fn refused(status: u8) -> Told
+    ensures { result ≡ record { session = SessionChange.Keeps; change = TransferChange.Nothing; status = status } }
+{
+    Told {
+        session: SessionChange::Keeps,
+        change: TransferChange::Nothing,
+        status,
+    }
+}
+
+fn accepted(session: SessionChange, change: TransferChange) -> Told
+    ensures { result ≡ record { session = session; change = change; status = 0 } }
+{
+    Told {
+        session,
+        change,
+        status: SUCCESS,
+    }
+}
+
+fn start<'a>(server: Server<'a>, parameters: Parameters, job: &'a Job) -> Told
+    ensures within { BeginsWithin server.entry.capacity parameters result.change }
+    ensures told { (to : ℕ) → starts (server_of server.entry) to parameters (transfer_of (job_of job.now)) ≡ told_by (server_of server.entry) to parameters result }
+{
+    if parameters.size > server.capacity {
+        refused(BLOB_TOO_LARGE)
+    } else if parameters.log < 12 || parameters.log > 14 {
+        refused(INVALID_BLOCK_SIZE)
+    } else if parameters.size != job.meta.size {
+        refused(INVALID_PARAMETER)
+    } else {
+        accepted(SessionChange::Links, TransferChange::Begin)
+    }
+}
+
+fn resume<'a>(server: Server<'a>, parameters: Parameters, present: Parameters) -> Told
+    ensures within { BeginsWithin server.entry.capacity parameters result.change }
+    ensures told { (to : ℕ) → resumes (server_of server.entry) to parameters present ≡ told_by (server_of server.entry) to parameters result }
+{
+    if parameters == present {
+        accepted(SessionChange::Links, TransferChange::Nothing)
+    } else {
+        refused(INVALID_PARAMETER)
+    }
+}
+
+fn repeat<'a>(
+    server: Server<'a>,
+    heard: SessionChange,
+    parameters: Parameters,
+    job: &'a Job,
+) -> Told
+    ensures within { BeginsWithin server.entry.capacity parameters result.change }
+    ensures told { (to : ℕ) → repeats (server_of server.entry) (session_by heard server.entry.now to (server_of server.entry).session) to parameters (transfer_of (job_of job.now)) ≡ told_by (server_of server.entry) to parameters result }
+{
+    match job.parameters {
+        Some(present) if parameters == present => accepted(heard, TransferChange::Nothing),
+        _ => refused(WRONG_PHASE),
+    }
+}
+
+/// BLOB Transfer Start.
+pub fn on_transfer_start<'a>(
+    server: Server<'a>,
+    id: u64,
+    parameters: Parameters,
+    phase: BlobPhase<'a>,
+) -> Told
+    ensures within { BeginsWithin server.entry.capacity parameters result.change }
+    ensures told { (to : ℕ) → on_transfer_start (server_of server.entry) to id parameters (blob_phase_of phase.entry) ≡ told_by (server_of server.entry) to parameters result }
+{
+    match phase {
+        BlobPhase::WaitingForStart(job) if id == job.id => start(server, parameters, job),
+        BlobPhase::Suspended(job, present) if server.session.link == Link::Ready => {
+            if id == job.id {
+                resume(server, parameters, present)
+            } else {
+                refused(WRONG_BLOB_ID)
+            }
+        }
+        BlobPhase::NextBlock(job, _) | BlobPhase::NextChunk(job, _, _) if id == job.id => {
+            repeat(server, SessionChange::Hears, parameters, job)
+        }
+        BlobPhase::Complete(job) if id == job.id => {
+            repeat(server, SessionChange::Keeps, parameters, job)
+        }
+        BlobPhase::Inactive | BlobPhase::Suspended(..) => refused(WRONG_PHASE),
+        _ => refused(WRONG_BLOB_ID),
+    }
+}
+
+/// BLOB Transfer Cancel.
+pub fn on_transfer_cancel<'a>(server: Server<'a>, id: u64) -> Told
+    ensures within { (capacity : ℕ) (p : Parameters) → BeginsWithin capacity p result.change }
+    ensures told { (to : ℕ) (p : Parameters) → on_transfer_cancel (server_of server.entry) to id (server_of server.entry).serving ≡ told_by (server_of server.entry) to p result }
+{
+    match server.serving {
+        Serving::NoJob => refused(SUCCESS),
+        Serving::Lacking(job) if id == job.id => match job.parameters {
+            None => accepted(SessionChange::Unlinks, TransferChange::Nothing),
+            Some(_) => accepted(SessionChange::Unlinks, TransferChange::Drop),
+        },
+        Serving::Whole(job) if id == job.id => refused(WRONG_PHASE),
+        _ => refused(WRONG_BLOB_ID),
+    }
+}
+
+fn block_told(
+    session: SessionChange,
+    status: u8,
+    block: u16,
+    chunk_size: u16,
+    report: Report,
+) -> BlockTold
+    ensures { result ≡ record { session = session; status = status; block = block; chunk_size = chunk_size; report = report } }
+{
+    BlockTold {
+        session,
+        status,
+        block,
+        chunk_size,
+        report,
+    }
+}
+
+fn open_or_hold(parameters: Parameters, job: &Job, block: u16, chunk_size: u16) -> BlockTold
+    requires below { block < length job.now.held }
+    requires transfer { IsTransfer (transfer_of (job_of job.now)) parameters }
+    requires least { 8 ≤ chunk_size }
+    requires most { chunk_size ≤ 376 }
+    ensures { (v : ServerModel) (to : ℕ) → (if is_some (at job.now.held block) then held_again v to block chunk_size else opens v to parameters block chunk_size) ≡ block_told_by v to result }
+{
+    if job.held.has(usize::from(block)) {
+        block_told(
+            SessionChange::Holds { block, chunk_size },
+            SUCCESS,
+            block,
+            chunk_size,
+            Report::Nothing,
+        )
+    } else {
+        let count = chunk_count(
+            block_len(parameters.size, parameters.log, block),
+            chunk_size,
+        );
+        let opens = SessionChange::Opens {
+            block,
+            chunk_size,
+            count,
+        };
+        block_told(opens, SUCCESS, block, chunk_size, Report::All)
+    }
+}
+
+fn next_block(parameters: Parameters, job: &Job, block: u16, chunk_size: u16) -> BlockTold
+    requires { IsTransfer (transfer_of (job_of job.now)) parameters }
+    ensures { (v : ServerModel) (to : ℕ) → on_block_start v to block chunk_size (NextBlock (transfer_of (job_of job.now)) parameters) ≡ block_told_by v to result }
+{
+    let most = parameters.mtu.saturating_sub(4).min(376);
+    if usize::from(block) >= job.held.len() {
+        block_told(
+            SessionChange::Keeps,
+            INVALID_BLOCK_NUMBER,
+            block,
+            chunk_size,
+            Report::All,
+        )
+    } else if chunk_size < 8 || chunk_size > most {
+        block_told(
+            SessionChange::Keeps,
+            INVALID_CHUNK_SIZE,
+            block,
+            chunk_size,
+            Report::All,
+        )
+    } else {
+        open_or_hold(parameters, job, block, chunk_size)
+    }
+}
+
+/// BLOB Block Start.
+pub fn on_block_start<'a>(block: u16, chunk_size: u16, phase: BlobPhase<'a>) -> BlockTold
+    requires { IsPhase (blob_phase_of phase) }
+    ensures { (v : ServerModel) (to : ℕ) → on_block_start v to block chunk_size (blob_phase_of phase.entry) ≡ block_told_by v to result }
+{
+    match phase {
+        BlobPhase::NextBlock(job, parameters) => next_block(parameters, job, block, chunk_size),
+        BlobPhase::NextChunk(_, _, current)
+            if block == current.number && chunk_size == current.chunk_size => {
+            block_told(
+                SessionChange::Hears,
+                SUCCESS,
+                block,
+                chunk_size,
+                report_of(&current.chunks.missing()),
+            )
+        }
+        _ => block_told(
+            SessionChange::Keeps,
+            WRONG_PHASE,
+            block,
+            chunk_size,
+            Report::All,
+        ),
+    }
+}
+
+fn told_last<'a>(server: Server<'a>, heard: SessionChange) -> BlockTold
+    ensures { (to : ℕ) → tell_last (server_of server.entry).session (session_by heard server.entry.now to (server_of server.entry).session) to (server_of server.entry).session.last ≡ block_told_by (server_of server.entry) to result }
+{
+    match server.session.last {
+        None => block_told(SessionChange::Keeps, WRONG_PHASE, 0, 0, Report::All),
+        Some(last) => block_told(
+            heard,
+            SUCCESS,
+            last.number,
+            last.chunk_size,
+            Report::Nothing,
+        ),
+    }
+}
+
+/// BLOB Block Get.
+pub fn on_block_get<'a>(server: Server<'a>, phase: BlobPhase<'a>) -> BlockTold
+    requires { IsPhase (blob_phase_of phase) }
+    ensures { (to : ℕ) → on_block_get (server_of server.entry) to (blob_phase_of phase.entry) ≡ block_told_by (server_of server.entry) to result }
+{
+    match phase {
+        BlobPhase::NextChunk(_, _, current) => {
+            let report = report_of(&current.chunks.missing());
+            block_told(
+                SessionChange::Hears,
+                SUCCESS,
+                current.number,
+                current.chunk_size,
+                report,
+            )
+        }
+        BlobPhase::NextBlock(..) => told_last(server, SessionChange::Hears),
+        BlobPhase::Complete(_) => told_last(server, SessionChange::Keeps),
+        _ => block_told(SessionChange::Keeps, WRONG_PHASE, 0, 0, Report::All),
+    }
+}
+
+fn has_length(parameters: Parameters, current: &CurrentBlock, chunk: u16, octets: usize) -> bool
+    requires coming { (t : Transfer) × IsComing t parameters (current_of current.now) }
+    requires within { chunk < length current.now.chunks }
+    ensures { result ≡ (octets == chunk_length (block_length parameters.size parameters.log current.now.number) current.now.chunk_size chunk) }
+{
+    let block = block_len(parameters.size, parameters.log, current.number);
+    octets == usize::from(chunk_len(block, current.chunk_size, chunk))
+}
+
+/// BLOB Chunk Transfer.
+pub fn on_chunk_transfer<'a>(chunk: u16, octets: &[u8], phase: BlobPhase<'a>) -> ChunkStep
+    requires { IsPhase (blob_phase_of phase) }
+    ensures within { ReceivesWithin chunk (blob_phase_of phase.entry) result }
+    ensures stepped { (v : ServerModel) → on_chunk_transfer v chunk octets.now (blob_phase_of phase.entry) ≡ chunk_stepped v chunk octets.now (blob_phase_of phase.entry) result }
+{
+    match phase {
+        BlobPhase::NextChunk(_, parameters, current) => {
+            if usize::from(chunk) >= current.chunks.len() {
+                ChunkStep::PassOver
+            } else if !has_length(parameters, current, chunk, octets.len()) {
+                ChunkStep::PassOver
+            } else if current.chunks.has(usize::from(chunk)) {
+                ChunkStep::Hear
+            } else {
+                ChunkStep::Receive(parameters)
+            }
+        }
+        _ => ChunkStep::PassOver,
+    }
+}

@@ -1,0 +1,71 @@
+// What a node's BLOB server does as time passes.
+ghost use Rattle.std.specs.Prelude.{◌≡◌};
+ghost use Rattle.mu_model_node.specs.BlobTable.{on_server_time};
+ghost use Rattle.mu_model_node.specs.NodeState.{server_of};
+ghost use Rattle.mu_model_node.specs.Sound.{IsNodeState};
+ghost use Rattle.mu_reference.specs.View.{state_of};
+ghost use Rattle.mu_reference.specs.BlobRows.{time_stepped};
+ghost use Rattle.mu_reference.specs.Outcomes.{ServedAs};
+
+use crate::blob_events::Served;
+use crate::chunks::nothing;
+use crate::messages::BlobReply;
+use crate::timing::{TimeStep, on_server_time};
+use crate::values::{PullReport, State};
+use arrayvec::ArrayVec;
+use mu_model_node::FlashWork;
+use mu_model_node::laws::states_are_sound;
+
+fn numbers_of(chunks: &ArrayVec<u16, 16>) -> ArrayVec<u16, 16>
+    ensures { result.items ≡ chunks.now.items }
+{
+    let mut numbers = ArrayVec::new();
+    if numbers.try_extend_from_slice(chunks.as_slice()).is_err() {
+        prove!(false);
+    }
+    numbers
+}
+
+impl State {
+    fn time_step(&self) -> TimeStep
+        requires { IsNodeState (state_of self.now) }
+        ensures { on_server_time (server_of (state_of self.now)) (server_of (state_of self.now)).serving ≡ time_stepped (server_of (state_of self.now)) result }
+    {
+        states_are_sound();
+        on_server_time(self.server(), self.blob_phase())
+    }
+
+    #[tactic(auto, using(crate::proofs::Changes::same_after))]
+    fn ask(&mut self, chunks: ArrayVec<u16, 16>) -> Served
+        ensures { ServedAs (state_of self.old) (time_stepped (server_of (state_of self.old)) (TimeStep.Ask chunks)) (Ok result) (state_of self.new) }
+    {
+        let asked = numbers_of(&chunks);
+        self.session.report = Some(PullReport {
+            moment: self.moment,
+            chunks: asked,
+        });
+        let reply = match self.session.client {
+            None => None,
+            Some(client) => Some((client, BlobReply::PartialBlockReport { chunks })),
+        };
+        Served {
+            reply,
+            work: FlashWork::Untouched,
+        }
+    }
+
+    /// Time passes at the BLOB server.
+    pub fn on_server_time(&mut self) -> Served
+        requires { IsNodeState (state_of self.old) }
+        ensures { ServedAs (state_of self.old) (on_server_time (server_of (state_of self.old)) (server_of (state_of self.old)).serving) (Ok result) (state_of self.new) }
+    {
+        match self.time_step() {
+            TimeStep::Wait => nothing(),
+            TimeStep::Unlink => {
+                self.session.unlink();
+                nothing()
+            }
+            TimeStep::Ask(chunks) => self.ask(chunks),
+        }
+    }
+}

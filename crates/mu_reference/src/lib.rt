@@ -1,0 +1,37 @@
+//! A node as plain values: it does what the node's model says, event by event, and no more. It is slow by a constant alone: linear
+//! in packets and octets.
+#![tactic(auto)]
+
+mod blob_events;
+mod blob_requests;
+mod blob_table;
+mod blob_time;
+mod chunks;
+mod information;
+mod messages;
+mod node;
+mod node_time;
+mod phases;
+mod recording;
+mod reference;
+mod session;
+mod slots;
+#[cfg(test)]
+mod tests;
+mod timing;
+mod update_table;
+mod values;
+
+pub use blob_events::{Served, transfer_reply};
+pub use blob_table::{BlockTold, ChunkStep, Server, SessionChange, Told, TransferChange};
+pub use messages::{
+    BlobReply, BlobRequest, Request, ShownJob, UpdateReply, UpdateRequest, UpdateStart,
+};
+pub use node::{Done, Reply};
+pub use phases::{BlobPhase, Serving, UpdatePhase, blob_phase, serving_at, update_phase};
+pub use recording::Stop;
+pub use reference::Node;
+pub use slots::{Octets, Slots};
+pub use timing::{TimeStep, is_late, on_server_time};
+pub use update_table::Updated;
+pub use values::{CurrentBlock, Image, Job, PullReport, Session, State};
