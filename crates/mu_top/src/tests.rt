@@ -305,6 +305,35 @@ fn refused_lines_are_shown_at_their_place(rt: HostRuntime) -> Result<(), Fail> {
 }
 
 #[test]
+fn refused_lines_behind_others_are_shown_at_their_place(rt: HostRuntime) -> Result<(), Fail> {
+    for (script, written) in [
+        (
+            b"node 0002 0000 1 1 hex:61\nnode 0003 0000 1 1 hex:61\nnode 0003 0000 1 1 hex:61\n".as_slice(),
+            b"refused 3 5 member\n".as_slice(),
+        ),
+        (
+            b"node 0002 0000 1 1 hex:61\nactive 0003\n",
+            b"refused 2 7 member\n",
+        ),
+        (
+            b"say 0001 0002 83\ndeliver 0 0002\n",
+            b"sent 0 0001 0002 83\nrefused 2 10 member\n",
+        ),
+        (
+            b"node 0002 0000 1 1 hex:61\nsay 0001 0002 83\ndeliver 1 0002\n",
+            b"sent 0 0001 0002 83\nrefused 3 8 packet\n",
+        ),
+        (
+            b"node 0002 0000 1 1 hex:61\nnode 0003 0000 1 1 hex:61\nsay 0003 0002 83\n",
+            b"refused 3 4 premise\n",
+        ),
+    ] {
+        expect(&rt, rt.alloc(), script, 7, written)?;
+    }
+    Ok(())
+}
+
+#[test]
 fn a_bank_may_be_full(rt: HostRuntime) -> Result<(), Fail> {
     expect(
         &rt,
