@@ -8,6 +8,7 @@ mod reading;
 
 pub use events::{Content, Event};
 pub use mu_codec::Payload;
+pub use mu_model_flash::Pattern;
 pub use mu_model_script::{LineFault, LineWhy};
 pub use reading::read_line;
 
