@@ -51,6 +51,10 @@ against_content token pages content = if nat_lt (page_octets * pages) (length (c
 abbrev pub against_unknown : World → (token address : ℕ) → Option Objection
 against_unknown w token address = if is_some (member_at w address) then None else against token BadMember
 
+-- a stranger has no member's address
+abbrev pub against_member_at : World → (token address : ℕ) → Option Objection
+against_member_at w token address = if is_some (member_at w address) then against token Premise else None
+
 abbrev pub against_addressee : ℕ → Member → Option Packet → Option Objection
 against_addressee address m (Some packet) = if is_addressee (config_of address m) packet then None else against 2 BadPacket
 against_addressee address m None = against 1 BadPacket
@@ -63,14 +67,18 @@ against_delivery address packet None = against 2 BadMember
 abbrev pub owner_of : ℕ → ℕ
 owner_of id = id / 2 ^ 48
 
--- a stranger's packet offers no update under a member's BLOB ID
-abbrev pub against_request : World → Option Request → Option Objection
-against_request w (Some (OfUpdate (StartUpdate u))) = if is_some (member_at w (owner_of u.id)) then against 3 Premise else None
-against_request w _ = None
+-- the BLOB ID of an update that a request offers
+abbrev pub offered : Option Request → Option ℕ
+offered (Some (OfUpdate (StartUpdate u))) = Some u.id
+offered _ = None
 
--- and comes from no member
+abbrev pub against_offer : World → Option ℕ → Option Objection
+against_offer w (Some id) = against_member_at w 3 (owner_of id)
+against_offer w None = None
+
+-- a stranger's packet comes from no member, and offers no update under a member's BLOB ID
 abbrev pub against_stranger : World → ℕ → List ℕ → Option Objection
-against_stranger w from payload = or_else (if is_some (member_at w from) then against 1 Premise else None) (against_request w (request_at payload))
+against_stranger w from payload = or_else (against_member_at w 1 from) (against_offer w (offered (request_at payload)))
 
 -- what stands first against an event, in the order of the reasons and of the tokens
 abbrev pub objection : World → Event → Option Objection

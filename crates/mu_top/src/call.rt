@@ -1,6 +1,7 @@
 // The one call of the program.
 ghost use Rattle.std.specs.Prelude.{◌≡◌, ◌≢◌, ◌↔◌, None, Some};
 ghost use Rattle.mu_model_flash.specs.Cause.{Rose};
+ghost use Rattle.mu_model_safety.specs.Laws.{EveryCutIsSafe, EveryWorldIsSafe};
 ghost use Rattle.mu_top.specs.Payloads.{PrintsPayloads, PayloadsComplete};
 ghost use Rattle.mu_top.specs.Replay.{Replayed, ReplayCompletes};
 ghost use Rattle.mu_top.specs.declared.payloads.PayloadText.TheVariants.{Canonical, Shown};
@@ -10,6 +11,7 @@ use crate::payloads::{PayloadText, print_payloads};
 use crate::replay::replay;
 use crate::status::Status;
 use crate::words::{Command, WordList, read_words};
+use mu_model_safety::laws::every_world_is_safe;
 use mu_outside::{Clock, Flash, Link, Sink, Source};
 use std::alloc::Global;
 
@@ -37,6 +39,10 @@ pub fn top<S: Source, K: Sink, F: Flash, L: Link, C: Clock>(
     // `replay` writes the model's run.
     ensures replay { command_of words.now ≡ Some Replay
         → Replayed (S.left source.old) (S.left source.new) (K.written sink.old) (K.written sink.new) result.status }
+
+    // In every world of that run, and wherever the power of a node may go in it, each active image of each node is one that it was
+    // made with, or a whole image that it accepted and whose Update Apply reached it verified.
+    ensures safe { EveryWorldIsSafe × EveryCutIsSafe }
 
     // A sound script from a source and to a sink that don't fail is done whole, unless memory is wanting.
     ensures replay_complete { command_of words.now ≡ Some Replay → (Rose (S.faults source.old) (S.faults source.new) → ⊥) → (Rose (K.faults sink.old) (K.faults sink.new) → ⊥)
@@ -67,6 +73,7 @@ pub fn top<S: Source, K: Sink, F: Flash, L: Link, C: Clock>(
     ensures link { link.new ≡ link.old }
     ensures clock { clock.new ≡ clock.old }
 {
+    every_world_is_safe();
     let status = match read_words(words) {
         None => Status::Usage,
         Some(Command::Replay) => replay(alloc, source, sink),

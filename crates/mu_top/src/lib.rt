@@ -2,21 +2,18 @@
 #![tactic(auto)]
 
 mod call;
-mod grammar;
 mod line;
-mod lines;
-mod member;
-mod node;
 mod payload;
 mod payloads;
 mod reader;
 mod replay;
 mod status;
 #[cfg(test)]
+mod node_tests;
+#[cfg(test)]
 mod tests;
 mod words;
 mod work;
-mod world;
 mod writing;
 
 pub use call::{Ended, top};

@@ -93,7 +93,7 @@ fn expect_of(
 }
 
 /// The same of a script.
-fn expect(
+pub(crate) fn expect(
     rt: &impl Abort,
     alloc: Global,
     script: &[u8],

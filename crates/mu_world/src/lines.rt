@@ -2,11 +2,10 @@
 ghost use Rattle.std.specs.Prelude.{◌≡◌, ◌≤◌, ◌∷◌, ◌++◌, [], length, decimal, codes, OnOk, OnErr};
 ghost use Rattle.hex.specs.Hex.{encode_lower};
 ghost use Rattle.mu_model_script.specs.Pieces.{blank};
-ghost use Rattle.mu_model_script.specs.Texts.{address_text, sent_text, unread_text, active_text, line_word, bad_word};
+ghost use Rattle.mu_model_script.specs.Texts.{address_text, sent_text, unread_text, active_text, phase_text, boot_text, text_line};
 
 use itoa::Buffer;
 use mu_codec::Packet;
-use mu_model_script::{BadWhy, LineWhy};
 use std::alloc::{AllocError, Global};
 use std::marker::Model;
 
@@ -114,6 +113,24 @@ fn active_line(
     end(line)
 }
 
+/// A line of a word, an address and two numbers.
+#[tactic(auto, using(std::proofs::Common::append_assoc))]
+fn numbers_line(
+    line: &mut Vec<u8>,
+    word: &[u8],
+    address: u16,
+    first: u32,
+    second: u32,
+) -> Result<(), AllocError>
+    ensures { OnOk result (line.new.items ≡ text_line (word.now ∷ address_text address ∷ decimal first ∷ decimal second ∷ [])) }
+{
+    begin(line, word)?;
+    put_address(line, address)?;
+    put_number(line, first)?;
+    put_number(line, second)?;
+    end(line)
+}
+
 impl Lines {
     /// No text. This takes no memory.
     pub fn new(alloc: Global) -> Lines
@@ -171,27 +188,25 @@ impl Lines {
         active_line(&mut self.line, address, version, size, digest)?;
         self.text.extend_from_slice(self.line.as_slice())
     }
-}
 
-/// The word of a refusal of a line by itself.
-pub fn line_word(why: LineWhy) -> &'static [u8]
-    ensures { result.now ≡ line_word why }
-{
-    match why {
-        LineWhy::Token => b"token",
-        LineWhy::Long => b"long",
+    /// The phases of the member at this address.
+    pub fn phase(&mut self, address: u16, first: u8, second: u8) -> Result<(), AllocError>
+        ensures ok { OnOk result (self.new ≡ self.old ++ phase_text address first second) }
+        ensures err { OnErr result (self.new ≡ self.old) }
+    {
+        let first = u32::from(first);
+        let second = u32::from(second);
+        numbers_line(&mut self.line, b"phase", address, first, second)?;
+        self.text.extend_from_slice(self.line.as_slice())
     }
-}
 
-/// The word of a refusal of a line in its world.
-pub fn bad_word(why: BadWhy) -> &'static [u8]
-    ensures { result.now ≡ bad_word why }
-{
-    match why {
-        BadWhy::Token => b"token",
-        BadWhy::Member => b"member",
-        BadWhy::Packet => b"packet",
-        BadWhy::Premise => b"premise",
+    /// A boot of the member at this address, from a record of this count, with so many blocks held of a bank that is being filled.
+    pub fn boot(&mut self, address: u16, count: u32, held: u16) -> Result<(), AllocError>
+        ensures ok { OnOk result (self.new ≡ self.old ++ boot_text address count held) }
+        ensures err { OnErr result (self.new ≡ self.old) }
+    {
+        numbers_line(&mut self.line, b"boot", address, count, u32::from(held))?;
+        self.text.extend_from_slice(self.line.as_slice())
     }
 }
 
@@ -232,6 +247,10 @@ mod tests {
             lines.bytes(),
             b"active 0002 1 1048576 ca000000000000000000000000000000000000000000000000000000000000bb\n".as_slice()
         );
+        lines.clear();
+        lines.phase(0x00A2, 3, 4)?;
+        lines.boot(0x7FFF, 4294967295, 256)?;
+        assert_eq!(rt; lines.bytes(), b"phase 00a2 3 4\nboot 7fff 4294967295 256\n".as_slice());
         Ok(())
     }
 }

@@ -1,0 +1,28 @@
+-- What the parts of the world's code come to.
+use Rattle.std.specs.Prelude.{ℕ, ◌≡◌, IsTrue, List, nat_eq, Option, Some, None}
+use Rattle.std.specs.Map.{set_value}
+use Rattle.mu_model_wire.specs.Packet.{Packet}
+use Rattle.mu_model_node.specs.Events.{NodeEvent, is_worn}
+use Rattle.mu_model_world.specs.Judged.{Objection}
+use Rattle.mu_model_world.specs.World.{Member, config_of}
+use Rattle.mu_world.specs.Member.{CameOf}
+use Rattle.mu_world.specs.declared.fault.WorldFault.{WorldFault}
+use Rattle.mu_world.specs.declared.fault.WorldFault.TheVariants.{Memory, Bad, Worn, TooLong}
+use Rattle.mu_world.specs.declared.member.Came.{Came}
+
+-- a fault is what stands against an event
+abbrev pub Objects : Option Objection → WorldFault → Type 0
+Objects against (Bad token why) = against ≡ Some (record { token = token; why = why })
+Objects against _ = ⊥
+
+-- an event came to the member at an address, and it is there as it is now
+pub record HandedTo (before after : List (ℕ × Member)) (address : ℕ) (old : Member) (event : NodeEvent) (now : ℕ) (sent : List Packet) (came : Came) : Type 0 where
+  pub new : Member
+  pub changed : after ≡ set_value (nat_eq address) before new
+  pub of : CameOf address old new event now sent came
+
+-- of want of memory nothing is said
+abbrev pub StoppedAt : ℕ → Member → NodeEvent → ℕ → WorldFault → Type 0
+StoppedAt address m event now Memory = Unit {0}
+StoppedAt address m event now (Worn worn) = (worn ≡ address) × IsTrue (is_worn (config_of address m) m.state event now)
+StoppedAt address m event now _ = ⊥
