@@ -5,4 +5,5 @@ pub mod Record
 pub mod Store
 pub mod Represents
 pub mod Kinds
+pub mod Next
 pub mod Laws

@@ -1,6 +1,5 @@
 -- The state of a store (this profile): its present record, and what its banks hold.
 use Rattle.std.specs.Prelude.{◌≡◌, ℕ, ◌+◌, ◌*◌, ◌^◌, ◌<◌, List, Option, Some, None, length, slice_index, slice_index_or}
-use Rattle.mu_model_image.specs.declared.Meta.{Meta}
 use Rattle.mu_model_image.specs.Meta.{IsFit}
 use Rattle.mu_model_image.specs.Pieces.{block_count, block_length}
 use Rattle.mu_model_flash.specs.Bits.{part_of}
