@@ -6,3 +6,4 @@ pub mod PlaceLemmas
 pub mod ControlLemmas
 pub mod FrameLemmas
 pub mod NextLemmas
+pub mod RecordLemmas

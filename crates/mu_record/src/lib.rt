@@ -1,0 +1,9 @@
+//! Records of a store: as octets, found on the control pages of a flash, and written there.
+#![tactic(auto)]
+
+mod entry;
+mod octets;
+mod ranges;
+
+pub use mu_model_record::{BankState, Record, Tag};
+pub use octets::{record_from, record_octets};
