@@ -214,7 +214,7 @@ spelled_entry format r octets b lt s = subst (λ (l : List ℕ). IsEntry (entry_
 
 weaker_range : (r : Record) (entry : BankState) → IsEntryInRange r entry → IsInRange r.pages entry
 weaker_range r Empty range = tt
-weaker_range r (Filling size log) range = range
+weaker_range r (Filling s log) range = range
 weaker_range r (Sealed meta) range = (range.0.some, range.1)
 
 pub record_ranges : (r : Record) → IsRecord r → HasRanges r

@@ -2,7 +2,7 @@
 ghost use Rattle.std.specs.Prelude.{◌≡◌, ℕ, ◌+◌, ◌*◌, ◌<◌, ◌≤◌, ◌↔◌, IsTrue, MatchOption, EachIndex, length, slice_index, slice_index_or};
 ghost use Rattle.mu_model_image.specs.declared.Meta.{Meta};
 ghost use Rattle.mu_model_image.specs.Meta.{IsMeta};
-ghost use Rattle.mu_model_flash.specs.Bits.{part_of, written};
+ghost use Rattle.mu_model_flash.specs.Bits.{AreOctets, part_of, written};
 ghost use Rattle.mu_model_record.specs.declared.BankState.{BankState};
 ghost use Rattle.mu_model_record.specs.declared.BankState.TheVariants.{Empty};
 ghost use Rattle.mu_model_record.specs.Record.{zeros, IsEntry, IsFillingEntry, IsSealedEntry};
@@ -29,7 +29,8 @@ pub(crate) fn is_zero(octets: &[u8]) -> bool
 // Puts these octets from a place on.
 pub(crate) fn put(octets: &mut [u8], at: usize, bytes: &[u8])
     requires { at + length bytes.now ≤ length octets.old }
-    ensures { octets.new ≡ written octets.old at bytes.now }
+    ensures written { octets.new ≡ written octets.old at bytes.now }
+    ensures small { AreOctets octets.new }
 {
     octets[at..at + bytes.len()].copy_from_slice(bytes);
 }

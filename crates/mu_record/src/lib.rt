@@ -4,6 +4,8 @@
 mod entry;
 mod octets;
 mod ranges;
+mod write;
 
 pub use mu_model_record::{BankState, Record, Tag};
 pub use octets::{record_from, record_octets};
+pub use write::{Place, write_record};

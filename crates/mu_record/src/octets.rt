@@ -1,6 +1,6 @@
 // Records as octets.
 ghost use Rattle.std.specs.Prelude.{◌≡◌, ℕ, ◌+◌, ◌*◌, ◌<◌, ◌≤◌, ◌↔◌, [], ◌∷◌, IsTrue, MatchOption, length, slice_index};
-ghost use Rattle.mu_model_flash.specs.Bits.{part_of};
+ghost use Rattle.mu_model_flash.specs.Bits.{AreOctets, part_of};
 ghost use Rattle.mu_model_record.specs.declared.Record.{Record};
 ghost use Rattle.mu_model_record.specs.Record.{zeros, IsRecord, IsSpelled};
 ghost use Rattle.mu_record.specs.Header.{header_of};
@@ -39,7 +39,8 @@ fn no_octets() -> [u8; 2048]
 /// The octets of a record of a format.
 pub fn record_octets(fields: &Record, format: u8) -> [u8; 2048]
     requires { IsRecord fields.now }
-    ensures { IsSpelled format fields.now result }
+    ensures spelled { IsSpelled format fields.now result }
+    ensures small { AreOctets result }
 {
     let mut octets = no_octets();
     put(&mut octets, 0, &header_octets(fields, format));
