@@ -1,0 +1,4 @@
+pub mod Entries
+pub mod Header
+pub mod Ranges
+pub mod Place
