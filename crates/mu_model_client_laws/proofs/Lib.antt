@@ -1,0 +1,6 @@
+pub mod Cases
+pub mod Rising
+pub mod Fated
+pub mod Plans
+pub mod Sound
+pub mod Chunks
