@@ -4,3 +4,4 @@ pub mod Fated
 pub mod Plans
 pub mod Sound
 pub mod Chunks
+pub mod Worked

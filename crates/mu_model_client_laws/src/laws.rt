@@ -1,5 +1,6 @@
 //! Laws of the client's definitions: functions that do nothing, whose contracts are proved.
 
+ghost use Rattle.mu_model_client_laws.specs.Worked.{RepairsTheUnion, Completes, DropsTheSilent, DropsByStatus, DropsOthers};
 ghost use Rattle.mu_model_client_laws.specs.Laws.{AtMostSixteen, PlansStay, TimeKeepsRanks, CancellingKeepsRanks, RowsRise, RowsChangeByCause, TimeChangesAtFive, GroupGetsTheUnion, EachGetsWhatItMisses, StepsSendTheirLists, BeginsSound, EventsKeepSound, ListsGoToActive};
 
 /// What is sent, what for and to whom stays from the beginning on.
@@ -43,4 +44,17 @@ pub fn lists()
 pub fn clients_are_sound()
     ensures begins { BeginsSound }
     ensures events { EventsKeepSound }
+{}
+
+/// Worked rows: chunks that two receivers miss are sent again, and an update that is answered in every step succeeds.
+pub fn worked_rows()
+    ensures repairs { RepairsTheUnion }
+    ensures completes { Completes }
+{}
+
+/// Worked rows: each way in which a receiver is dropped, and what its row shows then.
+pub fn worked_drops()
+    ensures silent { DropsTheSilent }
+    ensures status { DropsByStatus }
+    ensures others { DropsOthers }
 {}
