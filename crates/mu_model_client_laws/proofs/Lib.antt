@@ -5,3 +5,4 @@ pub mod Plans
 pub mod Sound
 pub mod Chunks
 pub mod Worked
+pub mod WorkedInitiator

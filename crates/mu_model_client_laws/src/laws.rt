@@ -1,6 +1,7 @@
 //! Laws of the client's definitions: functions that do nothing, whose contracts are proved.
 
 ghost use Rattle.mu_model_client_laws.specs.Worked.{RepairsTheUnion, Completes, DropsTheSilent, DropsByStatus, DropsOthers};
+ghost use Rattle.mu_model_client_laws.specs.WorkedInitiator.{Initiates};
 ghost use Rattle.mu_model_client_laws.specs.Laws.{AtMostSixteen, PlansStay, TimeKeepsRanks, CancellingKeepsRanks, RowsRise, RowsChangeByCause, TimeChangesAtFive, GroupGetsTheUnion, EachGetsWhatItMisses, StepsSendTheirLists, BeginsSound, EventsKeepSound, ListsGoToActive};
 
 /// What is sent, what for and to whom stays from the beginning on.
@@ -57,4 +58,9 @@ pub fn worked_drops()
     ensures silent { DropsTheSilent }
     ensures status { DropsByStatus }
     ensures others { DropsOthers }
+{}
+
+/// Worked rows: what an initiator asks of its distributor in each step, and how it ends.
+pub fn worked_initiator()
+    ensures { Initiates }
 {}
