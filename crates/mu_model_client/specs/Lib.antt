@@ -1,0 +1,11 @@
+pub mod Sets
+pub mod Answers
+pub mod Rows
+pub mod Client
+pub mod Begin
+pub mod Told
+pub mod Lists
+pub mod Due
+pub mod Packets
+pub mod InitiatorMessages
+pub mod Initiator
