@@ -1,16 +1,13 @@
 -- What an event comes to at a distributor, and its record: each event that changes what is kept writes one record, at its end and
 -- before anything is sent (this profile).
-use Rattle.std.specs.Prelude.{ℕ, ◌+◌, ◌==◌, Bool, true, false, ◌&&◌, not, List, [], ◌∷◌, Option, Some, None, Result, Ok, Err, drop}
-use Rattle.mu_model_node.specs.declared.Parameters.{Parameters}
-use Rattle.mu_model_node.specs.BlobTable.{are_parameters}
-use Rattle.mu_model_node.specs.UpdateTable.{same_meta}
+use Rattle.std.specs.Prelude.{ℕ, ◌+◌, ◌==◌, Bool, true, false, ◌&&◌, not, List, [], ◌∷◌, Result, Ok, Err, drop}
 use Rattle.mu_model_node.specs.declared.FlashWork.{FlashWork}
 use Rattle.mu_model_node.specs.declared.FlashWork.TheVariants.{Untouched, Recorded}
 use Rattle.mu_model_node.specs.FlashWork.{fresh_after}
-use Rattle.mu_model_distributor.specs.Requests.{Settings}
 use Rattle.mu_model_distributor.specs.Replies.{DistReply}
 use Rattle.mu_model_distributor.specs.DistMessages.{Sent, ByDistribution}
-use Rattle.mu_model_distributor.specs.DistState.{StoredImage, Receiver, UploadJob, Upload, NoUpload, Uploading, Broken, Uploaded, DistDurable, DistState, dist_number, run_upload}
+use Rattle.mu_model_distributor.specs.Same.{same_durable}
+use Rattle.mu_model_distributor.specs.DistState.{Receiver, DistDurable, DistState, run_upload}
 
 -- the state after an event, what is sent, each with its destination, and what the event does to the flash
 pub record Outcome : Type 0 where
@@ -21,52 +18,6 @@ pub record Outcome : Type 0 where
 -- nothing changes
 abbrev pub silently : DistState → Outcome
 silently s = record { next = s; sends = []; work = Untouched }
-
--- ---- whether two durable states have the same fields in a record; the count and what the banks hold apart
-
-abbrev pub same_settings : Settings → Settings → Bool
-same_settings a b =
-    (a.appkey == b.appkey) && (a.ttl == b.ttl) && (a.base == b.base) && (a.mode == b.mode) && (a.policy == b.policy) && (a.image == b.image)
-    && (a.group == b.group)
-
-abbrev pub same_receiver : Receiver → Receiver → Bool
-same_receiver a b =
-    (a.address == b.address) && (a.index == b.index) && (a.phase == b.phase) && (a.update_status == b.update_status)
-    && (a.transfer_status == b.transfer_status)
-
-abbrev pub same_receivers : List Receiver → List Receiver → Bool
-same_receivers [] [] = true
-same_receivers (a ∷ more) (b ∷ others) = same_receiver a b && same_receivers more others
-same_receivers _ _ = false
-
-abbrev pub same_images : List StoredImage → List StoredImage → Bool
-same_images [] [] = true
-same_images (a ∷ more) (b ∷ others) = (a.bank == b.bank) && same_meta a.image.meta b.image.meta && same_images more others
-same_images _ _ = false
-
-abbrev pub same_found : Option Parameters → Option Parameters → Bool
-same_found None None = true
-same_found (Some p) q = are_parameters p q
-same_found _ _ = false
-
-abbrev pub same_job : UploadJob → UploadJob → Bool
-same_job a b =
-    (a.transfer.id == b.transfer.id) && (a.transfer.size == b.transfer.size) && (a.transfer.base == b.transfer.base) && (a.bank == b.bank)
-    && same_found a.transfer.parameters b.transfer.parameters
-
-abbrev pub same_upload : Upload → Upload → Bool
-same_upload NoUpload NoUpload = true
-same_upload (Uploading a) (Uploading b) = same_job a b
-same_upload (Broken None) (Broken None) = true
-same_upload (Broken (Some a)) (Broken (Some b)) = same_job a b
-same_upload Uploaded Uploaded = true
-same_upload _ _ = false
-
-abbrev pub same_record : DistDurable → DistDurable → Bool
-same_record a b =
-    (dist_number a.phase == dist_number b.phase) && (a.counter == b.counter) && same_settings a.settings b.settings
-    && (a.upload_ttl == b.upload_ttl) && same_meta a.upload_meta b.upload_meta && same_upload a.upload b.upload
-    && same_images a.images b.images && same_receivers a.receivers b.receivers
 
 -- ---- the record
 
@@ -88,21 +39,21 @@ recorded t = record t {
   lags = false;
 }
 
--- from s to t, where t is as it should be but for the record: there is one exactly where t has other fields
-abbrev pub kept_or_recorded : DistState → DistState → Bool → DistState
-kept_or_recorded s t true = record t { durable = s.durable }
-kept_or_recorded s t false = recorded t
+-- from s to t, where t is as it should be but for the record: there is one exactly where what is kept would be another
+abbrev pub recorded_if : DistState → Bool → DistState
+recorded_if t true = t
+recorded_if t false = recorded t
 
 abbrev pub work_to : DistState → Bool → FlashWork
 work_to t true = Untouched
 work_to t false = Recorded (is_long t.durable)
 
 abbrev pub committed : DistState → DistState → DistState
-committed s t = kept_or_recorded s t (same_record s.durable t.durable)
+committed s t = recorded_if t (same_durable s.durable t.durable)
 
 -- and what is sent is sent after it
 abbrev pub ends : DistState → DistState → (DistState → List (ℕ × Sent)) → Outcome
-ends s t says = record { next = committed s t; sends = says (committed s t); work = work_to t (same_record s.durable t.durable) }
+ends s t says = record { next = committed s t; sends = says (committed s t); work = work_to t (same_durable s.durable t.durable) }
 
 -- ---- answers
 

@@ -11,7 +11,7 @@ use Rattle.mu_model_client.specs.Client.{Client, rows}
 use Rattle.mu_model_client.specs.Begin.{resume, take_apply, take_cancel}
 use Rattle.mu_model_distributor.specs.Replies.{DistReply, DistributionStatus}
 use Rattle.mu_model_distributor.specs.DistState.{StoredImage, Receiver, Upload, Uploading, DistPhase, Idle, TransferActive, TransferSuccess, ApplyingUpdate, Completed, Failed, CancelingUpdate, TransferSuspended, DistDurable, DistState, dist_number, run_upload, transfer_id, offered, rows_of, receiver_of, progress_of, no_progress}
-use Rattle.mu_model_distributor.specs.Commit.{same_settings}
+use Rattle.mu_model_distributor.specs.Same.{same_settings}
 use Rattle.mu_model_distributor.specs.Receivers.{insufficient_resources, wrong_phase, firmware_not_found, receivers_list_empty, busy_with_distribution, busy_with_upload}
 
 -- ---- the client
@@ -100,7 +100,7 @@ renewed r = record r { phase = phase_unknown; update_status = 0; transfer_status
 abbrev pub last_counter : ℕ
 last_counter = 2 ^ 48 - 1
 
--- a distribution begins, under the next number
+-- a distribution begins, under the next number; an upload that was broken off is so from now on
 abbrev pub begun : ℕ → DistState → Settings → DistState
 begun address s ask = client_begun address (record s {
   durable = record (s.durable) {
@@ -108,7 +108,9 @@ begun address s ask = client_begun address (record s {
     counter = s.durable.counter + 1;
     settings = ask;
     receivers = map renewed s.durable.receivers;
+    upload = run_upload s;
   };
+  lags = false;
   progress = no_progress s.durable.receivers;
 })
 

@@ -2,6 +2,7 @@ pub mod Requests
 pub mod Replies
 pub mod DistMessages
 pub mod DistState
+pub mod Same
 pub mod Commit
 pub mod Receivers
 pub mod Distribution
@@ -11,6 +12,8 @@ pub mod DistTable
 pub mod DistTime
 pub mod DistEvents
 pub mod Runs
+pub mod Sound
+pub mod Laws
 pub mod Scenes
 pub mod Worked
 pub mod WorkedUploads
