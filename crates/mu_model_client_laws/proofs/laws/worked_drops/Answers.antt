@@ -1,0 +1,11 @@
+use Rattle.mu_model_client_laws.proofs.Worked.{silent, refusals, others}
+use Rattle.mu_model_client_laws.proofs.laws.worked_drops.Goals as goal
+
+pub returns-clause-silent : goal.returns-clause-silent
+returns-clause-silent c = silent
+
+pub returns-clause-status : goal.returns-clause-status
+returns-clause-status c = refusals
+
+pub returns-clause-others : goal.returns-clause-others
+returns-clause-others c = others

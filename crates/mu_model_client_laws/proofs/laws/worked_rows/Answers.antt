@@ -1,0 +1,8 @@
+use Rattle.mu_model_client_laws.proofs.Worked.{repairs, completes}
+use Rattle.mu_model_client_laws.proofs.laws.worked_rows.Goals as goal
+
+pub returns-clause-repairs : goal.returns-clause-repairs
+returns-clause-repairs c = repairs
+
+pub returns-clause-completes : goal.returns-clause-completes
+returns-clause-completes c = completes

@@ -1,0 +1,66 @@
+//! Laws of the client's definitions: functions that do nothing, whose contracts are proved.
+
+ghost use Rattle.mu_model_client_laws.specs.Worked.{RepairsTheUnion, Completes, DropsTheSilent, DropsByStatus, DropsOthers};
+ghost use Rattle.mu_model_client_laws.specs.WorkedInitiator.{Initiates};
+ghost use Rattle.mu_model_client_laws.specs.Laws.{AtMostSixteen, PlansStay, TimeKeepsRanks, CancellingKeepsRanks, RowsRise, RowsChangeByCause, TimeChangesAtFive, GroupGetsTheUnion, EachGetsWhatItMisses, StepsSendTheirLists, BeginsSound, EventsKeepSound, ListsGoToActive};
+
+/// What is sent, what for and to whom stays from the beginning on.
+pub fn plans_stay()
+    ensures { PlansStay }
+{}
+
+/// A time event sends at most 16 packets.
+pub fn few_packets()
+    ensures { AtMostSixteen }
+{}
+
+/// A row's rank never falls; each change of its phase has its cause, and Transfer Canceled, Apply Failed and Phase Unknown are
+/// verdicts.
+pub fn rows()
+    ensures rise { RowsRise }
+    ensures time { TimeKeepsRanks }
+    ensures cancelled { CancellingKeepsRanks }
+    ensures causes { RowsChangeByCause }
+{}
+
+/// Nobody is dropped as Silent before five silent rounds of a step, and nobody at all for silence while applying or cancelling.
+pub fn silence()
+    ensures { TimeChangesAtFive }
+{}
+
+/// Chunks in push are the union of what active receivers miss, in rising order: one packet each with a group, and one for each
+/// receiver that misses it without.
+pub fn chunks()
+    ensures grouped { GroupGetsTheUnion }
+    ensures alone { EachGetsWhatItMisses }
+    ensures sent { StepsSendTheirLists }
+{}
+
+/// Each list that is made goes to active receivers, or to the group; so a receiver that was dropped is in none.
+pub fn lists()
+    ensures { ListsGoToActive }
+{}
+
+/// From its beginning on a client's pending receivers are active ones with fewer than five silent rounds.
+pub fn clients_are_sound()
+    ensures begins { BeginsSound }
+    ensures events { EventsKeepSound }
+{}
+
+/// Worked rows: chunks that two receivers miss are sent again, and an update that is answered in every step succeeds.
+pub fn worked_rows()
+    ensures repairs { RepairsTheUnion }
+    ensures completes { Completes }
+{}
+
+/// Worked rows: each way in which a receiver is dropped, and what its row shows then.
+pub fn worked_drops()
+    ensures silent { DropsTheSilent }
+    ensures status { DropsByStatus }
+    ensures others { DropsOthers }
+{}
+
+/// Worked rows: what an initiator asks of its distributor in each step, and how it ends.
+pub fn worked_initiator()
+    ensures { Initiates }
+{}

@@ -1,0 +1,14 @@
+-- Worked rows, evaluated.
+use Rattle.std.proofs.Common.{refl}
+use Rattle.sha2.specs.Sha256.{sha256, digest_bytes, hash_after, compress, rounds, schedule, first_words}
+use Rattle.mu_model_completion.specs.Worked.{OneNodeCompletes, EqualVersionEnds, FirstBlock}
+
+pub one_node : OneNodeCompletes
+unfolding sha256 digest_bytes hash_after compress rounds schedule first_words
+one_node = record { ten = refl; nine = refl }
+
+pub equal_version : EqualVersionEnds
+equal_version = record { row = refl; ended = refl }
+
+pub first_block : FirstBlock
+first_block = record { push_begun = refl; push = refl; pull_begun = refl; pull = refl }

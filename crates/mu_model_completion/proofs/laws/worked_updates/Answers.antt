@@ -1,0 +1,11 @@
+use Rattle.mu_model_completion.proofs.Worked.{one_node, equal_version, first_block}
+use Rattle.mu_model_completion.proofs.laws.worked_updates.Goals as goal
+
+pub returns-clause-one_node : goal.returns-clause-one_node
+returns-clause-one_node c = one_node
+
+pub returns-clause-equal_version : goal.returns-clause-equal_version
+returns-clause-equal_version c = equal_version
+
+pub returns-clause-first_block : goal.returns-clause-first_block
+returns-clause-first_block c = first_block
