@@ -1,0 +1,14 @@
+pub mod Worked
+pub mod ClientRows
+pub mod ClientDue
+pub mod Same
+pub mod Rows
+pub mod Moved
+pub mod Added
+pub mod Requests
+pub mod Images
+pub mod Uploads
+pub mod Served
+pub mod Blobs
+pub mod Times
+pub mod Steps

@@ -1,0 +1,29 @@
+//! Laws of the definitions: functions that do nothing, whose contracts are proved.
+
+ghost use Rattle.mu_model_distributor.specs.Worked.{ReceiversAndImages};
+ghost use Rattle.mu_model_distributor.specs.WorkedUploads.{AWholeUpload, BrokenUploads, RefusedUploads};
+ghost use Rattle.mu_model_distributor.specs.WorkedPhases.{PhaseByPhase};
+ghost use Rattle.mu_model_distributor.specs.WorkedRun.{ADistribution};
+ghost use Rattle.mu_model_distributor.specs.WorkedSettle.{NothingIsLost};
+ghost use Rattle.mu_model_distributor.specs.Laws.{EventsKeepStatesSound, BootsAreSound, PassedStatesAreSound, NewIsSound};
+
+/// The rules on a distributor's record hold in each state that it goes through, from each boot on.
+pub fn states_are_sound()
+    ensures events { EventsKeepStatesSound }
+    ensures boots { BootsAreSound }
+    ensures passed { PassedStatesAreSound }
+    ensures new { NewIsSound }
+{
+    mu_model_node::laws::states_are_sound();
+}
+
+/// Worked rows: what a distributor answers and is left with.
+pub fn worked_rows()
+    ensures receivers_and_images { ReceiversAndImages }
+    ensures whole_upload { AWholeUpload }
+    ensures broken_uploads { BrokenUploads }
+    ensures refused_uploads { RefusedUploads }
+    ensures phase_by_phase { PhaseByPhase }
+    ensures distribution { ADistribution }
+    ensures nothing_is_lost { NothingIsLost }
+{}
