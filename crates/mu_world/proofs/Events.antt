@@ -129,7 +129,7 @@ pub did_time : (w : World) (address ms now : ℕ) (old new : Member) (sent : Lis
 did_time w address ms now old new sent handled entries before after next found moment r is printed = record {
   sound = rw found refl;
   text = sent_texts (length w.bag) sent;
-  moved = rw (found, is) (subst (λ m. Contains (happens (begun w) address m TimeComes []) _) (ap (λ n. now_at n old) moment) (in_whole (begun w) address old new TimeComes now [] sent handled entries r));
+  moved = rw (found, is) (subst (λ n. Contains (happens (begun w) address (now_at n old) TimeComes []) (record { world = with_packets (record (begun w) { members = set_value (nat_eq address) w.members new; log = w.log ++ logged_at address entries }) sent; text = sent_texts (length w.bag) sent })) moment (in_whole (begun w) address old new TimeComes now [] sent handled entries r));
   printed = printed;
 }
 
@@ -140,7 +140,7 @@ pub did_time_torn : (w : World) (address ms now : ℕ) (old new : Member) (sent 
 did_time_torn w address ms now old new sent boot before after next found moment r is printed = record {
   sound = rw found refl;
   text = boot_text address boot.count boot.held;
-  moved = rw (found, is) (subst (λ m. Contains (happens (begun w) address m TimeComes []) _) (ap (λ n. now_at n old) moment) (in_torn (begun w) address old new TimeComes now [] sent boot r));
+  moved = rw (found, is) (subst (λ n. Contains (happens (begun w) address (now_at n old) TimeComes []) (record { world = record (begun w) { members = set_value (nat_eq address) w.members new; log = w.log ++ logged_at address (map what_of boot.entries.items) }; text = boot_text address boot.count boot.held })) moment (in_torn (begun w) address old new TimeComes now [] sent boot r));
   printed = printed;
 }
 

@@ -9,8 +9,8 @@ use Rattle.mu_model_node.specs.declared.NodeConfig.{NodeConfig}
 use Rattle.mu_model_world.specs.World.{Tear, Member, config_of}
 use Rattle.mu_model_world.specs.Outcomes.{done_by, filling_held}
 use Rattle.mu_reference_node.specs.Logging.{what_of}
-use Rattle.mu_reference.specs.declared.values.Stop.{Stop}
-use Rattle.mu_reference.specs.declared.values.Stop.TheVariants.{NoMemory, Worn}
+use Rattle.mu_reference.specs.declared.recording.Stop.{Stop}
+use Rattle.mu_reference.specs.declared.recording.Stop.TheVariants.{NoMemory, Worn}
 use Rattle.mu_world.specs.declared.member.Boot.{Boot}
 use Rattle.mu_world.specs.declared.member.Came.{Came}
 use Rattle.mu_world.specs.declared.member.Came.TheVariants.{Whole, Torn}

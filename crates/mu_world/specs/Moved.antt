@@ -5,8 +5,8 @@ use Rattle.mu_model_script.specs.Event.{Event}
 use Rattle.mu_model_world.specs.World.{World, new_world}
 use Rattle.mu_model_world.specs.Outcomes.{Moves, worn}
 use Rattle.mu_model_world.specs.Judged.{objection, most_events}
-use Rattle.mu_reference.specs.declared.values.Stop.{Stop}
-use Rattle.mu_reference.specs.declared.values.Stop.TheVariants.{NoMemory, Worn as WornOut}
+use Rattle.mu_reference.specs.declared.recording.Stop.{Stop}
+use Rattle.mu_reference.specs.declared.recording.Stop.TheVariants.{NoMemory, Worn as WornOut}
 use Rattle.mu_world.specs.declared.fault.WorldFault.{WorldFault}
 use Rattle.mu_world.specs.declared.fault.WorldFault.TheVariants.{Memory, Bad, Worn, TooLong}
 

@@ -5,7 +5,11 @@ use Rattle.mu_model_wire.specs.Packet.{Packet}
 use Rattle.mu_model_node.specs.Events.{NodeEvent, is_worn}
 use Rattle.mu_model_world.specs.Judged.{Objection}
 use Rattle.mu_model_world.specs.World.{Member, config_of}
-use Rattle.mu_world.specs.Member.{CameOf}
+use Rattle.mu_model_node.specs.NodeState.{restarted}
+use Rattle.mu_world.specs.Member.{BootOf, CameOf}
+use Rattle.mu_world.specs.View.{tear_of}
+use Rattle.mu_world.specs.declared.member.Boot.{Boot}
+use Rattle.mu_world.specs.declared.member.Tear.{Tear as HeldTear}
 use Rattle.mu_world.specs.declared.fault.WorldFault.{WorldFault}
 use Rattle.mu_world.specs.declared.fault.WorldFault.TheVariants.{Memory, Bad, Worn, TooLong}
 use Rattle.mu_world.specs.declared.member.Came.{Came}
@@ -20,6 +24,17 @@ pub record HandedTo (before after : List (ℕ × Member)) (address : ℕ) (old :
   pub new : Member
   pub changed : after ≡ set_value (nat_eq address) before new
   pub of : CameOf address old new event now sent came
+
+-- the power of the member at an address went between events
+pub record CutIn (before after : List (ℕ × Member)) (address : ℕ) (old : Member) (boot : Boot) : Type 0 where
+  pub new : Member
+  pub changed : after ≡ set_value (nat_eq address) before new
+  pub cut : new ≡ record old { tear = None; state = restarted old.state.durable }
+  pub of : BootOf old new boot
+
+-- the power of the member at an address is to go
+abbrev pub ArmedIn : List (ℕ × Member) → List (ℕ × Member) → ℕ → Member → HeldTear → Type 0
+ArmedIn before after address old tear = after ≡ set_value (nat_eq address) before (record old { tear = Some (tear_of tear) })
 
 -- of want of memory nothing is said
 abbrev pub StoppedAt : ℕ → Member → NodeEvent → ℕ → WorldFault → Type 0

@@ -61,8 +61,8 @@ fn copied(octets: &ArrayVec<u8, 1024>) -> ArrayVec<u8, 1024>
     ensures { result.items ≡ octets.now.items }
 {
     let mut copy = ArrayVec::new();
-    for octet in octets.iter() {
-        copy.push(*octet);
+    if copy.try_extend_from_slice(octets.as_slice()).is_err() {
+        prove!(false);
     }
     copy
 }

@@ -1,4 +1,6 @@
 // Why an event wasn't done.
+ghost use Rattle.std.specs.Prelude.{◌≡◌};
+
 use mu_model_script::BadWhy;
 use mu_reference_node::Stop;
 use std::alloc::{AllocError, AllocFailed};
@@ -18,7 +20,7 @@ pub enum WorldFault {
 
 impl WorldFault {
     ghost use Rattle.std.specs.Prelude.{◌≡◌};
-    ghost use Rattle.mu_reference.specs.declared.values.Stop.TheVariants.{NoMemory, Worn as WornOut};
+    ghost use Rattle.mu_reference.specs.declared.recording.Stop.TheVariants.{NoMemory, Worn as WornOut};
     ghost use Rattle.mu_world.specs.Moved.{fault_of};
 
     /// That of the node at this address.
@@ -52,4 +54,11 @@ impl<T: Drop> From<AllocFailed<T>> for WorldFault {
     fn from(_e: AllocFailed<T>) -> WorldFault {
         WorldFault::Memory
     }
+}
+
+/// What stands against an event: the number of the token that shows it, and why.
+pub(crate) fn bad(token: u8, why: BadWhy) -> WorldFault
+    ensures { result ≡ WorldFault.Bad token why }
+{
+    WorldFault::Bad { token, why }
 }

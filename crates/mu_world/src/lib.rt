@@ -6,6 +6,7 @@ mod fault;
 mod lines;
 mod log;
 mod member;
+mod members;
 mod packets;
 mod shown;
 mod state;

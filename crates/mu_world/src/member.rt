@@ -1,17 +1,16 @@
 // The members of a script.
-ghost use Rattle.std.specs.Prelude.{◌≡◌, [], ◌∷◌, Some, None, map, nat_eq, max, IfSome, IfOk, IfErr, OnErr, length, ℕ};
-ghost use Rattle.std.specs.Map.{lookup, set_value};
+ghost use Rattle.std.specs.Prelude.{◌≡◌, ◌≤◌, ◌<◌, [], Some, None, map, slice_get, IfOk, IfErr, OnErr, length};
 ghost use Rattle.mu_codec.specs.View.{packet_of};
+ghost use Rattle.mu_model_world.specs.Outcomes.{filling_held};
 ghost use Rattle.mu_world.specs.Member.{CameOf, Stopped};
 
 use crate::content::First;
-use indexmap::IndexMap;
 use mu_codec::Outbox;
 use mu_image::Meta;
 use mu_model_flash::Pattern;
 use mu_model_node::NodeConfig;
 use mu_reference_node::{Entries, Event, Node, Stop};
-use std::alloc::Global;
+use std::alloc::{AllocError, Global};
 use std::marker::Model;
 
 /// The power goes at a flash operation of the next event that has so many.
@@ -164,39 +163,49 @@ impl Member {
 
     /// After how many flash operations the power goes in an event at a moment, where it does. Of an operation that leaves made bits
     /// the state before it is taken: both may come of it.
-    fn operations_done(&self, config: &NodeConfig, event: Event, now: u64) -> Option<usize>
-        ensures { Operations config.now self.now (event_of event) now result }
+    fn operations_done<'a>(
+        &self,
+        alloc: Global,
+        config: &NodeConfig,
+        event: Event<'a>,
+        now: u64,
+    ) -> Result<Option<usize>, AllocError>
+        ensures { IfOk result (λ done. Operations config.now self.now (event_of event.entry) now done) }
     {
         let Some(tear) = self.tear else {
-            return None;
+            return Ok(None);
         };
         let operation = usize::from(tear.operation);
-        if operation > self.node.operations(config, event, now) {
-            return None;
+        if operation > self.node.operations(alloc, config, event, now)? {
+            return Ok(None);
         }
         match tear.pattern {
-            Pattern::New => Some(operation),
-            Pattern::Old | Pattern::Made(_) => Some(operation - 1),
+            Pattern::New => Ok(Some(operation)),
+            Pattern::Old => Ok(Some(operation.saturating_sub(1))),
+            Pattern::Made(_) => Ok(Some(operation.saturating_sub(1))),
         }
     }
 
     /// An event comes to it, at a moment that isn't before its own: what it sends goes into `out`. Where it isn't done, nothing has
     /// changed.
-    pub(crate) fn happen(
+    pub(crate) fn happen<'a>(
         &mut self,
         alloc: Global,
         address: u16,
-        event: Event,
+        event: Event<'a>,
         now: u64,
         out: &mut Outbox,
     ) -> Result<Came, Stop>
         requires { out.old.items ≡ [] }
-        ensures ok { IfOk result (λ came. CameOf address self.old self.new (event_of event) now (map packet_of out.new.items) came) }
-        ensures err { IfErr result (λ stop. Stopped address self.old (event_of event) now stop) }
+        ensures ok { IfOk result (λ came. CameOf address self.old self.new (event_of event.entry) now (map packet_of out.new.items) came) }
+        ensures err { IfErr result (λ stop. Stopped address self.old (event_of event.entry) now stop) }
         ensures same { OnErr result (self.new ≡ self.old) }
     {
         let config = self.config(address);
-        if let Some(done) = self.operations_done(&config, event, now) {
+        let Ok(torn) = self.operations_done(alloc, &config, event, now) else {
+            return Err(Stop::NoMemory);
+        };
+        if let Some(done) = torn {
             let entries = self.node.tear(alloc, &config, event, now, done)?;
             self.tear = None;
             self.moment = now;

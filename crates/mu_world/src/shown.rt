@@ -31,9 +31,10 @@ pub(crate) fn print_active(
 ) -> Result<(), AllocError>
     ensures { OnOk result (lines.new ≡ lines.old ++ active_texts address member.now.state.durable.images) }
 {
+    let count = member.images();
     let first = member.active(0);
     lines.active(address, first.version, first.size, &first.digest)?;
-    if member.images() == 2 {
+    if count == 2 {
         let second = member.active(1);
         lines.active(address, second.version, second.size, &second.digest)?;
     }

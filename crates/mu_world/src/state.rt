@@ -1,20 +1,21 @@
 // A world that goes on: its members, all that was sent, and what has happened.
-ghost use Rattle.std.specs.Prelude.{◌≡◌, ◌≤◌, ◌<◌, ◌++◌, ◌+◌, [], ◌∷◌, Some, None, map, length, nat_eq, ℕ, List, IfErr, IfOk, IfSome, OnOk, OnErr, if◌then◌else◌, slice_get};
-ghost use Rattle.std.specs.Map.{lookup, set_value};
-ghost use Rattle.std.specs.Option.{option_copied};
+ghost use Rattle.std.specs.Prelude.{◌≡◌, ◌≤◌, ◌<◌, ◌++◌, [], ◌∷◌, Some, None, map, length, nat_eq, IfErr, IfOk, IfSome, OnOk, OnErr};
+ghost use Rattle.std.specs.Map.{lookup};
 ghost use Rattle.mu_codec.specs.View.{packet_of};
-ghost use Rattle.mu_model_node.specs.NodeState.{NodeDurable, is_addressee};
 ghost use Rattle.mu_model_script.specs.Event.{Node as NodeLine, Old as OldLine, Pair as PairLine, Say as SayLine, Deliver as DeliverLine, Time as TimeLine, Cut as CutLine, Tear as TearLine, Active as ActiveLine, Phase as PhaseLine};
-ghost use Rattle.mu_model_script.specs.Texts.{unread_text, boot_text, phase_text};
-ghost use Rattle.mu_model_world.specs.Outcomes.{active_texts, sent_texts};
-ghost use Rattle.mu_world.specs.Member.{BootOf, CameOf, Stopped};
-ghost use Rattle.mu_world.specs.Moved.{Did, Fails, fault_of};
+ghost use Rattle.mu_model_script.specs.Texts.{boot_text};
+ghost use Rattle.mu_model_script.specs.Ranges.{IsInRange};
+ghost use Rattle.mu_model_world.specs.Judged.{against_member, against_stranger, most_events};
+ghost use Rattle.mu_model_world.specs.Outcomes.{content_octets, sent_texts};
+ghost use Rattle.mu_script.specs.View.{content, event};
+ghost use Rattle.mu_world.specs.Moved.{Did, Fails};
 
 use crate::content::{First, fits, image_copy, image_octets};
-use crate::fault::WorldFault;
+use crate::fault::{WorldFault, bad};
 use crate::lines::Lines;
 use crate::log::LogEntry;
 use crate::member::{Boot, Came, Member, Tear};
+use crate::members::{arm, cut, hand};
 use crate::packets::{copy_of, is_addressee, offered, owner_of, packet_at};
 use crate::shown::{print_active, print_unread};
 use indexmap::IndexMap;
@@ -59,8 +60,7 @@ impl Model for State {
 impl State {
     ghost use Rattle.mu_codec.specs.View.{packet_of};
     ghost use Rattle.mu_model_world.specs.World.{new_world, member_at, logged_at};
-    ghost use Rattle.mu_model_world.specs.Outcomes.{with_packets, with_member, counted, begun, new_member};
-    ghost use Rattle.mu_model_world.specs.Judged.{against_member, against_unknown, most_events};
+    ghost use Rattle.mu_model_world.specs.Outcomes.{with_packets, with_member, counted, begun};
     ghost use Rattle.mu_reference_node.specs.Logging.{what_of};
     ghost use Rattle.mu_world.specs.Outcome.{Objects};
 
@@ -232,6 +232,20 @@ impl State {
 
     // ---- packets and time
 
+    /// That a stranger may send a payload from an address.
+    fn stranger(&self, from: u16, payload: &[u8]) -> Result<(), WorldFault>
+        ensures ok { OnOk result (against_stranger self.now from payload.now ≡ None) }
+        ensures err { IfErr result (Objects (against_stranger self.now from payload.now)) }
+    {
+        if self.members.contains_key(&from) {
+            return Err(bad(1, BadWhy::Premise));
+        }
+        match offered(payload) {
+            Some(id) if self.members.contains_key(&owner_of(id)) => Err(bad(3, BadWhy::Premise)),
+            _ => Ok(()),
+        }
+    }
+
     /// A stranger's packet.
     fn say(
         &mut self,
@@ -244,14 +258,7 @@ impl State {
         ensures ok { OnOk result (Did self.old (SayLine from to payload.now.items) lines.old lines.new self.new) }
         ensures err { IfErr result (Fails self.old (SayLine from to payload.now.items) lines.old lines.new self.new) }
     {
-        if self.members.contains_key(&from) {
-            return Err(bad(1, BadWhy::Premise));
-        }
-        if let Some(id) = offered(payload.as_slice()) {
-            if self.members.contains_key(&owner_of(id)) {
-                return Err(bad(3, BadWhy::Premise));
-            }
-        }
+        self.stranger(from, payload.as_slice())?;
         self.begin();
         let packet = Packet {
             from,
@@ -294,12 +301,15 @@ impl State {
         ensures ok { OnOk result (Did self.old (DeliverLine number address) lines.old lines.new self.new) }
         ensures err { IfErr result (Fails self.old (DeliverLine number address) lines.old lines.new self.new) }
     {
-        let member = self.member(2, address)?;
+        let Some(member) = self.members.get(&address) else {
+            return Err(bad(2, BadWhy::Member));
+        };
         let moment = member.moment();
+        let config = member.config(address);
         let Some(packet) = packet_at(&self.bag, number) else {
             return Err(bad(1, BadWhy::Packet));
         };
-        if !is_addressee(&member.config(address), packet) {
+        if !is_addressee(&config, packet) {
             return Err(bad(2, BadWhy::Packet));
         }
         let mut out = Outbox::new();
@@ -338,10 +348,7 @@ impl State {
         ensures ok { OnOk result (Did self.old (CutLine address) lines.old lines.new self.new) }
         ensures err { IfErr result (Fails self.old (CutLine address) lines.old lines.new self.new) }
     {
-        let Some(member) = self.members.get_mut(&address) else {
-            return Err(bad(1, BadWhy::Member));
-        };
-        let boot = member.cut();
+        let boot = cut(&mut self.members, address)?;
         self.begin();
         self.booted(address, boot, lines)
     }
@@ -352,10 +359,7 @@ impl State {
         ensures ok { OnOk result (Did self.old (TearLine address tear.operation tear.pattern) lines.now lines.now self.new) }
         ensures err { IfErr result (Fails self.old (TearLine address tear.operation tear.pattern) lines.now lines.now self.new) }
     {
-        let Some(member) = self.members.get_mut(&address) else {
-            return Err(bad(1, BadWhy::Member));
-        };
-        member.arm(tear);
+        arm(&mut self.members, address, tear)?;
         self.begin();
         Ok(())
     }
@@ -441,35 +445,4 @@ impl State {
             Event::Phase { addr } => self.phase(*addr, lines),
         }
     }
-}
-
-/// An event comes to the member at an address, where there is one, at a moment that isn't before its own.
-fn hand(
-    alloc: Global,
-    members: &mut IndexMap<u16, Member>,
-    address: u16,
-    event: NodeEvent,
-    now: u64,
-    out: &mut Outbox,
-) -> Result<Came, WorldFault>
-    requires { out.old.items ≡ [] }
-    ensures ok { IfOk result (λ came. IfSome (lookup (nat_eq address) members.old.entries) (λ old.
-        HandedTo members.old.entries members.new.entries address old (event_of event) now (map packet_of out.new.items) came)) }
-    ensures err { IfErr result (λ fault. IfSome (lookup (nat_eq address) members.old.entries) (λ old.
-        StoppedAt address old (event_of event) now fault)) }
-    ensures same { OnErr result (members.new ≡ members.old) }
-{
-    let Some(member) = members.get_mut(&address) else {
-        return Err(WorldFault::Memory);
-    };
-    match member.happen(alloc, address, event, now, out) {
-        Ok(came) => Ok(came),
-        Err(stop) => Err(WorldFault::at(address, stop)),
-    }
-}
-
-fn bad(token: u8, why: BadWhy) -> WorldFault
-    ensures { result ≡ WorldFault.Bad token why }
-{
-    WorldFault::Bad { token, why }
 }

@@ -1,0 +1,20 @@
+use Rattle.std.proofs.Common.{sym, ap}
+use Rattle.mu_model_node.specs.BlobTable.{Served}
+use Rattle.mu_model_node.specs.NodeOutcome.{work_of}
+use Rattle.mu_reference.specs.View.{state_of}
+use Rattle.mu_reference.proofs.Received.{placed, received_work_is}
+use Rattle.mu_reference.proofs.values.State.chunk_work.Goals as goal
+
+pub received_work-requires : goal.received_work-requires
+received_work-requires c =
+    placed (state_of c.args.self.now) c.args.chunk c.in-Receive.field-0 c.chunks_are_of_the_job.ensures c.states_are_sound.ensures.phases c.requires c.in-Receive.ensures.within
+
+pub returns-in-PassOver : goal.returns-in-PassOver
+returns-in-PassOver c = λ from. sym (ap (λ (o : Served). work_of o.change) (c.in-PassOver.ensures.stepped from))
+
+pub returns-in-Hear : goal.returns-in-Hear
+returns-in-Hear c = λ from. sym (ap (λ (o : Served). work_of o.change) (c.in-Hear.ensures.stepped from))
+
+pub returns-in-Receive : goal.returns-in-Receive
+returns-in-Receive c =
+    received_work_is (state_of c.args.self.now) c.args.chunk c.args.octets.now c.in-Receive.field-0 c.received_work.result c.chunks_are_of_the_job.ensures c.in-Receive.ensures.within c.in-Receive.ensures.stepped c.received_work.ensures
