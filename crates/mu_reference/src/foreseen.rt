@@ -1,9 +1,5 @@
 // What an event will do to the flash, without doing it.
-<<<<<<< HEAD
-ghost use Rattle.std.specs.Prelude.{ℕ, ◌≡◌, IfOk};
-=======
 ghost use Rattle.std.specs.Prelude.{ℕ, ◌≡◌, ◌≤◌, ◌^◌, IfOk};
->>>>>>> dfa7da1e5c0d1f93820cdf3a8906f9096f13d5ca
 ghost use Rattle.mu_model_node.specs.declared.Parameters.{Parameters};
 ghost use Rattle.mu_model_node.specs.BlobTable.{on_blob, on_server_time};
 ghost use Rattle.mu_model_node.specs.BlobMessages.{ChunkTransfer};
@@ -13,10 +9,7 @@ ghost use Rattle.mu_model_node.specs.TimeTable.{on_time};
 ghost use Rattle.mu_model_node.specs.Events.{on_request};
 ghost use Rattle.mu_model_node.specs.NodeState.{server_of, update_phase};
 ghost use Rattle.mu_model_node.specs.NodeOutcome.{work_of, served};
-<<<<<<< HEAD
-=======
 ghost use Rattle.mu_model_node.specs.Laws.{pages_put};
->>>>>>> dfa7da1e5c0d1f93820cdf3a8906f9096f13d5ca
 ghost use Rattle.mu_model_node.specs.Sound.{IsNodeState};
 ghost use Rattle.mu_reference.specs.View.{state_of};
 ghost use Rattle.mu_reference.specs.BlobRows.{change_by, received_by, HasPlace};
@@ -35,12 +28,8 @@ use mu_model_node::laws::{chunks_are_of_the_job, states_are_sound};
 use std::alloc::{AllocError, Global};
 
 fn work_of(change: TransferChange) -> FlashWork
-<<<<<<< HEAD
-    ensures { (p : Parameters) → result ≡ work_of (change_by p change) }
-=======
     ensures few { pages_put result ≤ 2 ^ 53 }
     ensures work { (p : Parameters) → result ≡ work_of (change_by p change) }
->>>>>>> dfa7da1e5c0d1f93820cdf3a8906f9096f13d5ca
 {
     match change {
         TransferChange::Nothing => FlashWork::Untouched,
@@ -57,12 +46,8 @@ impl State {
         octets: &[u8],
     ) -> Result<FlashWork, AllocError>
         requires { HasPlace chunk (state_of self.now).session.current (state_of self.now).durable.job }
-<<<<<<< HEAD
-        ensures { IfOk result (λ work. (p : Parameters) → work ≡ work_of (received_by (state_of self.now) p chunk octets.now).change) }
-=======
         ensures few { IfOk result (λ work. pages_put work ≤ 2 ^ 53) }
         ensures work { IfOk result (λ work. (p : Parameters) → work ≡ work_of (received_by (state_of self.now) p chunk octets.now).change) }
->>>>>>> dfa7da1e5c0d1f93820cdf3a8906f9096f13d5ca
     {
         match self.last_chunk(alloc, chunk, octets)? {
             None => Ok(FlashWork::Untouched),
@@ -74,12 +59,8 @@ impl State {
 
     fn chunk_work(&self, alloc: Global, chunk: u16, octets: &[u8]) -> Result<FlashWork, AllocError>
         requires { IsNodeState (state_of self.now) }
-<<<<<<< HEAD
-        ensures { IfOk result (λ work. (from : ℕ) → work ≡ work_of (on_blob (server_of (state_of self.now)) from (ChunkTransfer chunk octets.now)).change) }
-=======
         ensures few { IfOk result (λ work. pages_put work ≤ 2 ^ 53) }
         ensures work { IfOk result (λ work. (from : ℕ) → work ≡ work_of (on_blob (server_of (state_of self.now)) from (ChunkTransfer chunk octets.now)).change) }
->>>>>>> dfa7da1e5c0d1f93820cdf3a8906f9096f13d5ca
     {
         states_are_sound();
         chunks_are_of_the_job();
@@ -96,12 +77,8 @@ impl State {
         request: BlobRequest<'a>,
     ) -> Result<FlashWork, AllocError>
         requires { IsNodeState (state_of self.now) }
-<<<<<<< HEAD
-        ensures { IfOk result (λ work. (from : ℕ) → work ≡ work_of (on_blob (server_of (state_of self.now)) from (blob_request_of request.entry)).change) }
-=======
         ensures few { IfOk result (λ work. pages_put work ≤ 2 ^ 53) }
         ensures work { IfOk result (λ work. (from : ℕ) → work ≡ work_of (on_blob (server_of (state_of self.now)) from (blob_request_of request.entry)).change) }
->>>>>>> dfa7da1e5c0d1f93820cdf3a8906f9096f13d5ca
     {
         match request {
             BlobRequest::TransferStart { id, parameters } => {
@@ -117,12 +94,8 @@ impl State {
     }
 
     fn step_work(&self, step: UpdateStep) -> FlashWork
-<<<<<<< HEAD
-        ensures { (from : ℕ) → result ≡ (update_stepped (state_of self.now) from step).work }
-=======
         ensures few { pages_put result ≤ 2 ^ 53 }
         ensures work { (from : ℕ) → result ≡ (update_stepped (state_of self.now) from step).work }
->>>>>>> dfa7da1e5c0d1f93820cdf3a8906f9096f13d5ca
     {
         match step {
             UpdateStep::Lose => FlashWork::Recorded { is_long: false },
@@ -137,12 +110,8 @@ impl State {
     }
 
     fn start_work(&self, asked: UpdateStart) -> FlashWork
-<<<<<<< HEAD
-        ensures { (from : ℕ) → result ≡ (on_update (state_of self.now) from (StartUpdate (update_start_of asked.entry))).work }
-=======
         ensures few { pages_put result ≤ 2 ^ 53 }
         ensures work { (from : ℕ) → result ≡ (on_update (state_of self.now) from (StartUpdate (update_start_of asked.entry))).work }
->>>>>>> dfa7da1e5c0d1f93820cdf3a8906f9096f13d5ca
     {
         match self.start_step(asked) {
             Some(step) => self.step_work(step),
@@ -154,12 +123,8 @@ impl State {
     }
 
     fn update_work<'a>(&self, request: UpdateRequest<'a>) -> FlashWork
-<<<<<<< HEAD
-        ensures { (from : ℕ) → result ≡ (on_update (state_of self.now) from (update_request_of request.entry)).work }
-=======
         ensures few { pages_put result ≤ 2 ^ 53 }
         ensures work { (from : ℕ) → result ≡ (on_update (state_of self.now) from (update_request_of request.entry)).work }
->>>>>>> dfa7da1e5c0d1f93820cdf3a8906f9096f13d5ca
     {
         match request {
             UpdateRequest::StartUpdate(asked) => self.start_work(asked),
@@ -178,12 +143,8 @@ impl State {
         request: Request<'a>,
     ) -> Result<FlashWork, AllocError>
         requires { IsNodeState (state_of self.now) }
-<<<<<<< HEAD
-        ensures { IfOk result (λ work. (from : ℕ) → work ≡ (on_request (state_of self.now) from (request_of request.entry)).work) }
-=======
         ensures few { IfOk result (λ work. pages_put work ≤ 2 ^ 53) }
         ensures work { IfOk result (λ work. (from : ℕ) → work ≡ (on_request (state_of self.now) from (request_of request.entry)).work) }
->>>>>>> dfa7da1e5c0d1f93820cdf3a8906f9096f13d5ca
     {
         match request {
             Request::Update(request) => Ok(self.update_work(request)),
@@ -193,12 +154,8 @@ impl State {
 
     fn serving_work(&self) -> FlashWork
         requires { IsNodeState (state_of self.now) }
-<<<<<<< HEAD
-        ensures { result ≡ (served (state_of self.now) (on_server_time (server_of (state_of self.now)) (server_of (state_of self.now)).serving)).work }
-=======
         ensures few { pages_put result ≤ 2 ^ 53 }
         ensures work { result ≡ (served (state_of self.now) (on_server_time (server_of (state_of self.now)) (server_of (state_of self.now)).serving)).work }
->>>>>>> dfa7da1e5c0d1f93820cdf3a8906f9096f13d5ca
     {
         match self.time_step() {
             TimeStep::Wait => FlashWork::Untouched,
@@ -210,12 +167,8 @@ impl State {
     /// What a time event will do to the flash.
     pub fn time_work(&self) -> FlashWork
         requires { IsNodeState (state_of self.now) }
-<<<<<<< HEAD
-        ensures { result ≡ (on_time (state_of self.now) (update_phase (state_of self.now))).work }
-=======
         ensures few { pages_put result ≤ 2 ^ 53 }
         ensures work { result ≡ (on_time (state_of self.now) (update_phase (state_of self.now))).work }
->>>>>>> dfa7da1e5c0d1f93820cdf3a8906f9096f13d5ca
     {
         match self.time_kind() {
             TimeKind::Serve => self.serving_work(),

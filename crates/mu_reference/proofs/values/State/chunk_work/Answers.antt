@@ -9,17 +9,6 @@ pub received_work-requires : goal.received_work-requires
 received_work-requires c =
     placed (state_of c.args.self.now) c.args.chunk c.in-Receive.field-0 c.chunks_are_of_the_job.ensures c.states_are_sound.ensures.phases c.requires c.in-Receive.ensures.within
 
-<<<<<<< HEAD
-pub returns-in-PassOver : goal.returns-in-PassOver
-returns-in-PassOver c = λ from. sym (ap (λ (o : Served). work_of o.change) (c.in-PassOver.ensures.stepped from))
-
-pub returns-in-Hear : goal.returns-in-Hear
-returns-in-Hear c = λ from. sym (ap (λ (o : Served). work_of o.change) (c.in-Hear.ensures.stepped from))
-
-pub returns-in-Receive : goal.returns-in-Receive
-returns-in-Receive c =
-    received_work_is (state_of c.args.self.now) c.args.chunk c.args.octets.now c.in-Receive.field-0 c.received_work.result c.chunks_are_of_the_job.ensures c.in-Receive.ensures.within c.in-Receive.ensures.stepped c.received_work.ensures
-=======
 pub returns-in-PassOver-clause-work : goal.returns-in-PassOver-clause-work
 returns-in-PassOver-clause-work c = λ from. sym (ap (λ (o : Served). work_of o.change) (c.in-PassOver.ensures.stepped from))
 
@@ -29,4 +18,3 @@ returns-in-Hear-clause-work c = λ from. sym (ap (λ (o : Served). work_of o.cha
 pub returns-in-Receive-clause-work : goal.returns-in-Receive-clause-work
 returns-in-Receive-clause-work c =
     received_work_is (state_of c.args.self.now) c.args.chunk c.args.octets.now c.in-Receive.field-0 c.received_work.result c.chunks_are_of_the_job.ensures c.in-Receive.ensures.within c.in-Receive.ensures.stepped c.received_work.ensures.work
->>>>>>> dfa7da1e5c0d1f93820cdf3a8906f9096f13d5ca
