@@ -3,13 +3,13 @@
 
 mod call;
 mod line;
+#[cfg(test)]
+mod node_tests;
 mod payload;
 mod payloads;
 mod reader;
 mod replay;
 mod status;
-#[cfg(test)]
-mod node_tests;
 #[cfg(test)]
 mod tests;
 mod words;

@@ -1,22 +1,21 @@
 -- What an event comes to in a world, from what the code has found and done there.
-use Rattle.std.proofs.Common.{◌≡◌, ℕ, ◌<◌, ◌≤◌, ◌*◌, ◌+◌, max, Bool, true, false, List, [], ◌∷◌, ◌++◌, length, map, Option, Some, None, Contains, nat_eq, nat_le, nat_lt, refl, sym, ap, ◌∙◌, subst, append_assoc, append-nil, arith, is_some, slice_get, slice_index_or, cond, zero, suc}
-use Rattle.std.specs.Prelude.{IsTrue}
+use Rattle.std.proofs.Common.{◌≡◌, ℕ, ◌<◌, ◌≤◌, max, Bool, true, false, List, [], ◌∷◌, ◌++◌, length, map, Option, Some, None, Contains, nat_eq, nat_le, refl, sym, ap, ◌∙◌, subst, append_assoc, append-nil, arith, slice_get, cond, zero, suc}
+use Rattle.std.specs.Prelude.{IsTrue, IsSome, IfSome, OnOk, Result, Ok, Err}
 use Rattle.std.proofs.lemmas.Bool.{lt-leb, le-leb}
-use Rattle.std.specs.Map.{lookup, set_value}
+use Rattle.std.specs.Map.{set_value}
 use Rattle.mu_model_flash.specs.declared.Pattern.{Pattern}
 use Rattle.mu_model_wire.specs.Packet.{Packet}
-use Rattle.mu_model_image.specs.Meta.{Image}
 use Rattle.mu_model_node.specs.Events.{NodeEvent, PacketComes, TimeComes, NodeStep, node_step, node_work, is_worn}
-use Rattle.mu_model_node.specs.Log.{LogEntry, logged}
-use Rattle.mu_model_node.specs.NodeState.{NodeState, NodeDurable, restarted, is_addressee}
+use Rattle.mu_model_node.specs.Log.{LogEntry}
+use Rattle.mu_model_node.specs.NodeState.{NodeDurable, restarted, is_addressee}
 use Rattle.mu_model_node.specs.Safe.{left_after}
 use Rattle.mu_model_script.specs.Texts.{unread_text, boot_text}
-use Rattle.mu_model_script.specs.Event.{Event, Deliver, Time, Cut}
+use Rattle.mu_model_script.specs.Event.{Event, Deliver, Time, Cut, Tear as TearLine, Active, Phase}
 use Rattle.mu_model_world.specs.World.{Tear, Member, World, member_at, config_of, logged_at}
-use Rattle.mu_model_world.specs.Outcomes.{Outcome, outcomes, Moves, one, happens, happens_by, torn, done_by, ran, booted, unread, at_moment, begun, with_packets, with_changed, with_state, sent_texts, filling_held, worn, worn_at}
+use Rattle.mu_model_world.specs.Outcomes.{outcomes, one, happens, happens_by, torn, done_by, ran, booted, unread, begun, with_packets, with_changed, sent_texts, active_texts, phase_line, worn}
 use Rattle.mu_model_world.specs.Judged.{objection}
 use Rattle.mu_reference_node.specs.Logging.{what_of}
-use Rattle.mu_world.specs.Member.{BootOf, Tears, IsPending, RanWhole, WasTorn}
+use Rattle.mu_world.specs.Member.{BootOf, IsPending, RanWhole, WasTorn}
 use Rattle.mu_world.specs.Moved.{Did}
 use Rattle.mu_world.specs.declared.member.Boot.{Boot}
 
@@ -158,3 +157,41 @@ pub did_cut : (w : World) (address : ℕ) (old new : Member) (boot : Boot) (befo
     → after ≡ before ++ boot_text address boot.count boot.held → Did w (Cut address) before after next
 did_cut w address old new boot before after next found now b is printed =
     did_one w (Cut address) (boot_text address boot.count boot.held) before after next (rw found refl) (rw (found, is, b.count, b.held, b.entries, now) refl) printed
+
+-- ---- lines that show or arm
+
+-- what is there
+pub record There {X : Type 0} (o : Option X) : Type 0 where
+  pub one : X
+  pub is : o ≡ Some one
+
+pub there : {X : Type 0} (o : Option X) → IsSome o → There o
+there None h = absurd cc
+there (Some x) h = record { one = x; is = refl }
+
+pub on_ok_both : {E : Type 0} (r : Result (Unit {0}) E) (P Q R : Type 0) → (P → Q → R) → OnOk r P → OnOk r Q → OnOk r R
+on_ok_both (Ok tt) P Q R f p q = f p q
+on_ok_both (Err e) P Q R f p q = tt
+
+pub on_ok_map : {E : Type 0} (r : Result (Unit {0}) E) (P Q : Type 0) → (P → Q) → OnOk r P → OnOk r Q
+on_ok_map (Ok tt) P Q f p = f p
+on_ok_map (Err e) P Q f p = tt
+
+pub if_some_at : {X : Type 0} (o : Option X) (x : X) (P : X → Type 0) → o ≡ Some x → IfSome o P → P x
+if_some_at None x P is h = absurd cc
+if_some_at (Some y) x P is h =
+    let same : y ≡ x = cc in
+    subst P same h
+
+pub did_tear : (w : World) (address operation : ℕ) (pattern : Pattern) (old : Member) (before : List ℕ) (next : World) → member_at w address ≡ Some old
+    → next ≡ with_changed (begun w) address (record old { tear = Some (record { operation = operation; pattern = pattern }) }) → Did w (TearLine address operation pattern) before before next
+did_tear w address operation pattern old before next found is =
+    did_one w (TearLine address operation pattern) [] before before next (rw found refl) (rw (found, is) refl) (sym (append-nil before))
+
+pub did_active : (w : World) (address : ℕ) (old : Member) (before after : List ℕ) (next : World) → member_at w address ≡ Some old → next ≡ begun w
+    → after ≡ before ++ active_texts address old.state.durable.images → Did w (Active address) before after next
+did_active w address old before after next found is printed = did_one w (Active address) (active_texts address old.state.durable.images) before after next (rw found refl) (rw (found, is) refl) printed
+
+pub did_phase : (w : World) (address : ℕ) (old : Member) (before after : List ℕ) (next : World) → member_at w address ≡ Some old → next ≡ begun w
+    → after ≡ before ++ phase_line address old.state → Did w (Phase address) before after next
+did_phase w address old before after next found is printed = did_one w (Phase address) (phase_line address old.state) before after next (rw found refl) (rw (found, is) refl) printed

@@ -1,2 +1,4 @@
-pub mod Events
 pub mod ActiveTexts
+pub mod Events
+pub mod Free
+pub mod Counted

@@ -1,5 +1,5 @@
 -- What an event does at a member in memory.
-use Rattle.std.specs.Prelude.{ℕ, ◌≡◌, ◌≤◌, ◌<◌, Bool, true, false, IsTrue, List, [], map, length, Contains, Option, Some, None}
+use Rattle.std.specs.Prelude.{ℕ, ◌≡◌, ◌≤◌, ◌<◌, Bool, false, IsTrue, List, [], map, length, Contains, Option, Some, None}
 use Rattle.mu_model_wire.specs.Packet.{Packet}
 use Rattle.mu_model_node.specs.Events.{NodeEvent, node_step, node_work, is_worn}
 use Rattle.mu_model_node.specs.Log.{LogEntry, logged}

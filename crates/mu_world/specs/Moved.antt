@@ -1,5 +1,5 @@
 -- What the world's code does with an event.
-use Rattle.std.specs.Prelude.{◌≡◌, ℕ, ◌<◌, ◌≤◌, ◌⊎◌, List, ◌++◌, Option, Some, None}
+use Rattle.std.specs.Prelude.{◌≡◌, ℕ, ◌<◌, ◌≤◌, List, ◌++◌, Option, Some, None}
 use Rattle.mu_model_script.specs.declared.BadWhy.{BadWhy}
 use Rattle.mu_model_script.specs.Event.{Event}
 use Rattle.mu_model_world.specs.World.{World, new_world}

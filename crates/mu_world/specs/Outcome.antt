@@ -1,18 +1,23 @@
 -- What the parts of the world's code come to.
-use Rattle.std.specs.Prelude.{ℕ, ◌≡◌, IsTrue, List, nat_eq, Option, Some, None}
+use Rattle.std.specs.Prelude.{ℕ, ◌≡◌, IsTrue, List, ◌++◌, nat_eq, Option, Some, None}
 use Rattle.std.specs.Map.{set_value}
 use Rattle.mu_model_wire.specs.Packet.{Packet}
 use Rattle.mu_model_node.specs.Events.{NodeEvent, is_worn}
 use Rattle.mu_model_world.specs.Judged.{Objection}
-use Rattle.mu_model_world.specs.World.{Member, config_of}
+use Rattle.mu_model_node.specs.Log.{LogEntry}
+use Rattle.mu_model_world.specs.World.{Member, World, config_of, logged_at}
 use Rattle.mu_model_node.specs.NodeState.{restarted}
 use Rattle.mu_world.specs.Member.{BootOf, CameOf}
 use Rattle.mu_world.specs.View.{tear_of}
 use Rattle.mu_world.specs.declared.member.Boot.{Boot}
 use Rattle.mu_world.specs.declared.member.Tear.{Tear as HeldTear}
 use Rattle.mu_world.specs.declared.fault.WorldFault.{WorldFault}
-use Rattle.mu_world.specs.declared.fault.WorldFault.TheVariants.{Memory, Bad, Worn, TooLong}
+use Rattle.mu_world.specs.declared.fault.WorldFault.TheVariants.{Memory, Bad, Worn}
 use Rattle.mu_world.specs.declared.member.Came.{Came}
+
+-- what has happened at the node of an address is logged
+abbrev pub with_entries : World → ℕ → List LogEntry → World
+with_entries w address entries = record w { log = w.log ++ logged_at address entries }
 
 -- a fault is what stands against an event
 abbrev pub Objects : Option Objection → WorldFault → Type 0

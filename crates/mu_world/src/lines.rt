@@ -250,7 +250,10 @@ mod tests {
         lines.clear();
         lines.phase(0x00A2, 3, 4)?;
         lines.boot(0x7FFF, 4294967295, 256)?;
-        assert_eq!(rt; lines.bytes(), b"phase 00a2 3 4\nboot 7fff 4294967295 256\n".as_slice());
+        assert_eq!(rt;
+            lines.bytes(),
+            b"phase 00a2 3 4\nboot 7fff 4294967295 256\n".as_slice()
+        );
         Ok(())
     }
 }

@@ -22,6 +22,24 @@ pub(crate) struct Tear {
     pub(crate) pattern: Pattern,
 }
 
+impl Tear {
+    ghost use Rattle.std.specs.Prelude.{Contains};
+    ghost use Rattle.mu_model_world.specs.Outcomes.{done_by};
+
+    /// How many operations are done when the power goes. Of an operation that leaves made bits the state before it is taken: both
+    /// may come of it.
+    fn operations_done(self) -> usize
+        ensures { Contains (done_by self.pattern self.operation) result }
+    {
+        let operation = usize::from(self.operation);
+        match self.pattern {
+            Pattern::New => operation,
+            Pattern::Old => operation.saturating_sub(1),
+            Pattern::Made(_) => operation.saturating_sub(1),
+        }
+    }
+}
+
 /// What a node was booted with.
 #[derive(Drop)]
 pub(crate) struct Boot {
@@ -161,29 +179,24 @@ impl Member {
         }
     }
 
-    /// After how many flash operations the power goes in an event at a moment, where it does. Of an operation that leaves made bits
-    /// the state before it is taken: both may come of it.
+    /// After how many flash operations the power goes in an event at a moment, where it does.
     fn operations_done<'a>(
-        &self,
+        &mut self,
         alloc: Global,
         config: &NodeConfig,
         event: Event<'a>,
         now: u64,
     ) -> Result<Option<usize>, AllocError>
-        ensures { IfOk result (λ done. Operations config.now self.now (event_of event.entry) now done) }
+        ensures done { IfOk result (λ done. Operations config.now self.old (event_of event.entry) now done) }
+        ensures same { self.new ≡ self.old }
     {
         let Some(tear) = self.tear else {
             return Ok(None);
         };
-        let operation = usize::from(tear.operation);
-        if operation > self.node.operations(alloc, config, event, now)? {
+        if usize::from(tear.operation) > self.node.operations(alloc, config, event, now)? {
             return Ok(None);
         }
-        match tear.pattern {
-            Pattern::New => Ok(Some(operation)),
-            Pattern::Old => Ok(Some(operation.saturating_sub(1))),
-            Pattern::Made(_) => Ok(Some(operation.saturating_sub(1))),
-        }
+        Ok(Some(tear.operations_done()))
     }
 
     /// An event comes to it, at a moment that isn't before its own: what it sends goes into `out`. Where it isn't done, nothing has

@@ -20,8 +20,9 @@ use crate::packets::{copy_of, is_addressee, offered, owner_of, packet_at};
 use crate::shown::{print_active, print_unread};
 use indexmap::IndexMap;
 use mu_codec::{Outbox, Packet, Payload};
+use mu_model_image::laws::made;
 use mu_model_script::BadWhy;
-use mu_reference_node::{Entries, Event as NodeEvent, Node};
+use mu_reference_node::{Entries, Event as NodeEvent, Node, What};
 use mu_script::{Content, Event};
 use std::alloc::Global;
 use std::marker::Model;
@@ -59,10 +60,10 @@ impl Model for State {
 
 impl State {
     ghost use Rattle.mu_codec.specs.View.{packet_of};
-    ghost use Rattle.mu_model_world.specs.World.{new_world, member_at, logged_at};
+    ghost use Rattle.mu_model_world.specs.World.{new_world, member_at};
     ghost use Rattle.mu_model_world.specs.Outcomes.{with_packets, with_member, counted, begun};
     ghost use Rattle.mu_reference_node.specs.Logging.{what_of};
-    ghost use Rattle.mu_world.specs.Outcome.{Objects};
+    ghost use Rattle.mu_world.specs.Outcome.{Objects, with_entries};
 
     /// The world before the first line.
     pub(crate) fn new(alloc: Global) -> State
@@ -116,14 +117,26 @@ impl State {
         Ok(())
     }
 
-    /// Logs what happened at the node of an address.
-    fn enter(&mut self, address: u16, mut entries: Entries) -> Result<(), WorldFault>
-        ensures ok { OnOk result (self.new ≡ record self.old { log = self.old.log ++ logged_at address (map what_of entries.items) }) }
+    /// Logs one thing that happened at the node of an address.
+    fn enter(&mut self, address: u16, what: What) -> Result<(), WorldFault>
+        ensures ok { OnOk result (self.new ≡ with_entries self.old address (what_of what ∷ [])) }
+        ensures err { IfErr result (λ fault. fault ≡ WorldFault.Memory) }
+    {
+        self.log.push(LogEntry {
+            node: address,
+            what,
+        })?;
+        Ok(())
+    }
+
+    /// Logs what happened at the node of an address, in order.
+    fn enter_all(&mut self, address: u16, mut entries: Entries) -> Result<(), WorldFault>
+        ensures ok { OnOk result (self.new ≡ with_entries self.old address (map what_of entries.items)) }
         ensures err { IfErr result (λ fault. fault ≡ WorldFault.Memory) }
     {
         while !entries.is_empty() {
             let what = entries.remove(0);
-            self.log.push(LogEntry { node: address, what })?;
+            self.enter(address, what)?;
         }
         Ok(())
     }
@@ -218,7 +231,14 @@ impl State {
         fits(7, pages, second_image)?;
         let octets = image_octets(self.alloc, image)?;
         let second_octets = image_octets(self.alloc, second_image)?;
-        let node = Node::pair(self.alloc, pages, version, octets, second_version, second_octets)?;
+        let node = Node::pair(
+            self.alloc,
+            pages,
+            version,
+            octets,
+            second_version,
+            second_octets,
+        )?;
         let first = First {
             version,
             content: image_copy(image),
@@ -276,21 +296,21 @@ impl State {
         packets: Outbox,
         lines: &mut Lines,
     ) -> Result<(), WorldFault>
-        ensures world { OnOk result (self.new ≡ with_packets (record self.old { log = self.old.log ++ logged_at address (map what_of entries.items) }) (map packet_of packets.items)) }
+        ensures world { OnOk result (self.new ≡ with_packets (with_entries self.old address (map what_of entries.items)) (map packet_of packets.items)) }
         ensures printed { OnOk result (lines.new ≡ lines.old ++ sent_texts (length self.old.bag) (map packet_of packets.items)) }
         ensures err { IfErr result (λ fault. fault ≡ WorldFault.Memory) }
     {
-        self.enter(address, entries)?;
+        self.enter_all(address, entries)?;
         self.send_all(packets, lines)
     }
 
     /// A boot of the node of an address is logged and printed.
     fn booted(&mut self, address: u16, boot: Boot, lines: &mut Lines) -> Result<(), WorldFault>
-        ensures world { OnOk result (self.new ≡ record self.old { log = self.old.log ++ logged_at address (map what_of boot.entries.items) }) }
+        ensures world { OnOk result (self.new ≡ with_entries self.old address (map what_of boot.entries.items)) }
         ensures printed { OnOk result (lines.new ≡ lines.old ++ boot_text address boot.count boot.held) }
         ensures err { IfErr result (λ fault. fault ≡ WorldFault.Memory) }
     {
-        self.enter(address, boot.entries)?;
+        self.enter_all(address, boot.entries)?;
         lines.boot(address, boot.count, boot.held)?;
         Ok(())
     }
@@ -313,7 +333,14 @@ impl State {
             return Err(bad(2, BadWhy::Packet));
         }
         let mut out = Outbox::new();
-        let came = hand(self.alloc, &mut self.members, address, NodeEvent::Packet(packet), moment, &mut out)?;
+        let came = hand(
+            self.alloc,
+            &mut self.members,
+            address,
+            NodeEvent::Packet(packet),
+            moment,
+            &mut out,
+        )?;
         self.begin();
         match came {
             Came::Whole { handled, entries } => {
@@ -332,7 +359,14 @@ impl State {
     {
         let moment = self.member(1, address)?.moment().max(ms);
         let mut out = Outbox::new();
-        let came = hand(self.alloc, &mut self.members, address, NodeEvent::Time, moment, &mut out)?;
+        let came = hand(
+            self.alloc,
+            &mut self.members,
+            address,
+            NodeEvent::Time,
+            moment,
+            &mut out,
+        )?;
         self.begin();
         match came {
             Came::Whole { entries, .. } => self.ran(address, entries, out, lines),
@@ -397,6 +431,7 @@ impl State {
         ensures ok { OnOk result (Did self.old (event happening.now) lines.old lines.new self.new) }
         ensures err { IfErr result (Fails self.old (event happening.now) lines.old lines.new self.new) }
     {
+        made();
         match happening {
             Event::Node {
                 addr,

@@ -1,5 +1,5 @@
 // The world of a script.
-ghost use Rattle.std.specs.Prelude.{◌≡◌, ◌<◌, map, length, IfSome, IfErr, OnOk, IfOk, Err, min, slice_get, Some};
+ghost use Rattle.std.specs.Prelude.{◌≡◌, ◌<◌, ◌+◌, map, length, IfSome, IfErr, OnOk, IfOk, Err, min, slice_get, Some};
 ghost use Rattle.mu_codec.specs.View.{packet_of};
 ghost use Rattle.mu_model_script.specs.Ranges.{IsInRange};
 ghost use Rattle.mu_script.specs.View.{event};
@@ -54,6 +54,7 @@ impl World {
         requires { IsInRange (event happening.now) }
         ensures ok { OnOk result (DidLine self.old (event happening.now) lines.old lines.new self.new) }
         ensures err { IfErr result (λ fault. FailsLine self.old (event happening.now) lines.old lines.new self.new fault self.old.fault) }
+        ensures counted { OnOk result (self.new.world.events ≡ self.old.world.events + 1) }
         ensures kept { IfSome self.old.fault (λ fault. result ≡ Err fault) }
     {
         if let Some(fault) = self.fault {
