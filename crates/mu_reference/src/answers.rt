@@ -25,6 +25,7 @@ impl Model for BlobAnswer {
 }
 
 impl BlobAnswer {
+    /// A reply whose fields are in their ranges.
     pub fn new(reply: BlobReply) -> BlobAnswer
         requires { BlobReplyFits reply }
         ensures { result ≡ blob_reply_of reply }
@@ -32,6 +33,7 @@ impl BlobAnswer {
         BlobAnswer { reply }
     }
 
+    /// The reply.
     pub fn into_reply(self) -> BlobReply
         ensures is { blob_reply_of result ≡ self }
         ensures fits { BlobReplyFits result }
@@ -59,6 +61,7 @@ impl Model for UpdateAnswer {
 }
 
 impl UpdateAnswer {
+    /// A reply whose fields are in their ranges.
     pub fn new(reply: UpdateReply) -> UpdateAnswer
         requires { UpdateReplyFits reply }
         ensures { result ≡ update_reply_of reply }
@@ -66,6 +69,7 @@ impl UpdateAnswer {
         UpdateAnswer { reply }
     }
 
+    /// The reply.
     pub fn into_reply(self) -> UpdateReply
         ensures is { update_reply_of result ≡ self }
         ensures fits { UpdateReplyFits result }

@@ -116,8 +116,8 @@ impl Way {
     }
 }
 
-/// Firmware Update messages: the way to a phase, then what comes, with the answers.
-pub(super) const UPDATE_ROWS: [(Way, &[Move]); 63] = [
+/// What a node tells of itself and of what is offered: the way to a phase, then what comes, with the answers.
+pub(super) const UPDATE_ROWS: [(Way, &[Move]); 25] = [
     (Way::New, &[Say(0, GET, IDLE)]),
     (Way::Ready, &[Say(0, GET, ACTIVE)]),
     (Way::Late, &[Say(10000, GET, ERROR)]),
@@ -143,6 +143,10 @@ pub(super) const UPDATE_ROWS: [(Way, &[Move]); 63] = [
     (Way::New, &[Say(0, CHECK_TOO_LARGE, CHECKED_FAILED)]),
     (Way::New, &[Say(0, CHECK_EMPTY, CHECKED_FAILED)]),
     (Way::New, &[Say(0, CHECK_SHORT, CHECKED_FAILED)]),
+];
+
+/// Update Start, Update Cancel, Update Apply: the way to a phase, then what comes, with the answers.
+pub(super) const START_ROWS: [(Way, &[Move]); 38] = [
     (Way::New, &[Say(0, START, ACTIVE)]),
     (Way::Ready, &[Say(0, START, ACTIVE)]),
     (
@@ -237,8 +241,8 @@ pub(super) const UPDATE_ROWS: [(Way, &[Move]); 63] = [
     (Way::Asked, &[Say(1, APPLY, APPLYING)]),
 ];
 
-/// BLOB Transfer messages: the way to a phase, then what comes, with the answers.
-pub(super) const BLOB_ROWS: [(Way, &[Move]); 104] = [
+/// BLOB Information and BLOB Transfer messages: the way to a phase, then what comes, with the answers.
+pub(super) const TRANSFER_ROWS: [(Way, &[Move]); 65] = [
     (Way::New, &[Say(0, BLOB_INFORMATION, BLOB_LIMITS)]),
     (Way::Whole, &[Say(1, BLOB_INFORMATION, BLOB_LIMITS)]),
     (Way::New, &[Say(0, TRANSFER_GET, T_INACTIVE)]),
@@ -415,6 +419,10 @@ pub(super) const BLOB_ROWS: [(Way, &[Move]); 104] = [
             Say(1, GET, APPLYING),
         ],
     ),
+];
+
+/// BLOB Block and BLOB Chunk messages: the way to a phase, then what comes, with the answers.
+pub(super) const BLOCK_ROWS: [(Way, &[Move]); 39] = [
     (Way::Chunks, &[Say(0, BLOCK_START, B_ALL)]),
     (
         Way::Chunks,
