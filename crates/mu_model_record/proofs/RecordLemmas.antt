@@ -34,8 +34,8 @@ spelled_once format r s octets four four' p q =
     let number : r.number ≡ s.number = sym p.number_at_5 ∙ q.number_at_5 in
     let tag : r.tag ≡ s.tag = sym p.tag_at_256 ∙ q.tag_at_256 in
     let banks : r.banks ≡ s.banks = ext_get_or Empty r.banks s.banks (four ∙ sym four') (λ b lt.
-        let few : b < 4 = omega (arith, lt, four) in
-        entry_once (entry_of r b) (entry_of s b) (part_of octets (16 + 48 * b) 48) (p.bank_at_16 b few) (q.bank_at_16 b few)) in
+    let few : b < 4 = omega (arith, lt, four) in
+    entry_once (entry_of r b) (entry_of s b) (part_of octets (16 + 48 * b) 48) (p.bank_at_16 b few) (q.bank_at_16 b few)) in
     λ i. record { count = count i; pages = pages i; number = number i; banks = banks i; tag = tag i }
 
 pub word_once : (word : Word) (r s : Record) → IsRecord r → IsRecord s → IsWordOf word r → IsWordOf word s → r ≡ s

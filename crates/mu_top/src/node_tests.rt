@@ -23,7 +23,7 @@ const SENT_START: &[u8] =
     b"sent 0 0001 0002 830d0500000700000000000100000300000002000000ba7816bf8f01cfea414140de5dae2223b00361a396177a9cb410ff61f20015ad\n";
 
 /// It is taken: Transfer Active.
-const STARTED: &[u8] = b"sent 1 0002 0001 831040050000070000000000010000\n";
+const STARTED: &[u8] = b"sent 1 0002 0001 83104005000000070000000000010000\n";
 
 /// A Transfer Start by push, of blocks of 4,096 octets.
 const SAY_TRANSFER: &[u8] = b"say 0001 0002 8301400700000000000100030000000c7c01\n";
@@ -53,14 +53,15 @@ const SENT_CHUNK: &[u8] = b"sent 6 0001 0002 660000616263\n";
 const SAY_GET: &[u8] = b"say 0001 0002 830c\n";
 
 /// Its line and its answer: Verification Succeeded.
-const SENT_GET: &[u8] = b"sent 7 0001 0002 830c\nsent 8 0002 0001 831080050000070000000000010000\n";
+const SENT_GET: &[u8] =
+    b"sent 7 0001 0002 830c\nsent 8 0002 0001 83108005000000070000000000010000\n";
 
 /// An Update Apply.
 const SAY_APPLY: &[u8] = b"say 0001 0002 830f\n";
 
 /// Its line and its answer: Applying Update.
 const SENT_APPLY: &[u8] =
-    b"sent 9 0001 0002 830f\nsent 10 0002 0001 8310c0050000070000000000010000\n";
+    b"sent 9 0001 0002 830f\nsent 10 0002 0001 8310c005000000070000000000010000\n";
 
 /// The image that the node was made with.
 const OLD_IMAGE: &[u8] =
@@ -400,13 +401,13 @@ fn a_node_with_two_images(rt: HostRuntime) -> Result<(), Fail> {
             b"deliver 7 0002\ntime 0002 2\nactive 0002\n",
         ],
         &[
-            b"sent 0 0001 0002 830d0500000700000000000100010300000002000000ba7816bf8f01cfea414140de5dae2223b00361a396177a9cb410ff61f20015ad\nsent 1 0002 0001 831040050000070000000000010001\n",
+            b"sent 0 0001 0002 830d0500000700000000000100010300000002000000ba7816bf8f01cfea414140de5dae2223b00361a396177a9cb410ff61f20015ad\nsent 1 0002 0001 83104005000000070000000000010001\n",
             SENT_TRANSFER,
             TRANSFERRED,
             SENT_BLOCK,
             BLOCK_STATUS,
             SENT_CHUNK,
-            b"sent 7 0001 0002 830f\nsent 8 0002 0001 8310c0050000070000000000010001\n",
+            b"sent 7 0001 0002 830f\nsent 8 0002 0001 8310c005000000070000000000010001\n",
             OLD_IMAGE,
             NEW_IMAGE,
         ],
