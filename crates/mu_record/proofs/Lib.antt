@@ -1,3 +1,4 @@
 pub mod EntryLemmas
 pub mod SpellLemmas
 pub mod WriteLemmas
+pub mod FoundLemmas
