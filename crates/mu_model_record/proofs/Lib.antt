@@ -7,3 +7,5 @@ pub mod ControlLemmas
 pub mod FrameLemmas
 pub mod NextLemmas
 pub mod RecordLemmas
+pub mod ChangeLemmas
+pub mod PropLemmas

@@ -1,13 +1,12 @@
 -- Octets are those of one record at most.
-use Rattle.std.proofs.Common.{◌≡◌, ℕ, ◌+◌, ◌*◌, ◌<◌, List, length, get_or, Some, sym, ◌∙◌, ap, subst, arith}
-use Rattle.std.proofs.lemmas.List.{ext_get_or, get_or-replicate}
-use Rattle.mu_model_image.specs.declared.Meta.{Meta}
+use Rattle.std.proofs.Common.{◌≡◌, ℕ, ◌+◌, ◌*◌, ◌<◌, List, length, get_or, Some, sym, ◌∙◌, ap, arith}
+use Rattle.std.proofs.lemmas.List.{ext_get_or}
 use Rattle.mu_model_flash.specs.Bits.{part_of}
 use Rattle.mu_model_record.specs.declared.Record.{Record}
 use Rattle.mu_model_record.specs.declared.BankState.{BankState}
 use Rattle.mu_model_record.specs.declared.BankState.TheVariants.{Empty, Filling, Sealed}
 use Rattle.mu_model_record.specs.Page.{Word, page_word, slot_word}
-use Rattle.mu_model_record.specs.Record.{zeros, IsEntry, IsFillingEntry, IsSealedEntry, entry_of, IsSpelled, IsRecord, IsWordOf}
+use Rattle.mu_model_record.specs.Record.{zeros, IsEntry, entry_of, IsSpelled, IsRecord, IsWordOf}
 
 no_state : (octets : List ℕ) → octets ≡ zeros 48 → get_or octets 0 0 ≡ 0
 unfolding zeros
@@ -34,8 +33,8 @@ spelled_once format r s octets four four' p q =
     let number : r.number ≡ s.number = sym p.number_at_5 ∙ q.number_at_5 in
     let tag : r.tag ≡ s.tag = sym p.tag_at_256 ∙ q.tag_at_256 in
     let banks : r.banks ≡ s.banks = ext_get_or Empty r.banks s.banks (four ∙ sym four') (λ b lt.
-        let few : b < 4 = omega (arith, lt, four) in
-        entry_once (entry_of r b) (entry_of s b) (part_of octets (16 + 48 * b) 48) (p.bank_at_16 b few) (q.bank_at_16 b few)) in
+    let few : b < 4 = omega (arith, lt, four) in
+    entry_once (entry_of r b) (entry_of s b) (part_of octets (16 + 48 * b) 48) (p.bank_at_16 b few) (q.bank_at_16 b few)) in
     λ i. record { count = count i; pages = pages i; number = number i; banks = banks i; tag = tag i }
 
 pub word_once : (word : Word) (r s : Record) → IsRecord r → IsRecord s → IsWordOf word r → IsWordOf word s → r ≡ s

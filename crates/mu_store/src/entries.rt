@@ -1,0 +1,24 @@
+// The entries of a record, changed.
+ghost use Rattle.std.specs.Prelude.{◌≡◌, if◌then◌else◌};
+ghost use Rattle.mu_model_record.specs.declared.BankState.TheVariants.{Empty};
+ghost use Rattle.mu_model_record.specs.Changes.{cleared};
+
+use mu_record::BankState;
+
+fn empty_if(named: bool, entry: BankState) -> BankState
+    ensures { result ≡ (if named then Empty else entry) }
+{
+    if named { BankState::Empty } else { entry }
+}
+
+// The entries with those of the named banks Empty.
+pub(crate) fn cleared(entries: &[BankState; 4], named: &[bool; 4]) -> [BankState; 4]
+    ensures { result ≡ cleared Empty named.now entries.now }
+{
+    [
+        empty_if(named[0], entries[0]),
+        empty_if(named[1], entries[1]),
+        empty_if(named[2], entries[2]),
+        empty_if(named[3], entries[3]),
+    ]
+}
