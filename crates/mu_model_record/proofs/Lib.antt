@@ -8,4 +8,5 @@ pub mod FrameLemmas
 pub mod NextLemmas
 pub mod RecordLemmas
 pub mod ChangeLemmas
+pub mod KindLemmas
 pub mod PropLemmas

@@ -1,1 +1,4 @@
 pub mod StoreLemmas
+pub mod ReadLemmas
+pub mod JudgeLemmas
+pub mod BootLemmas

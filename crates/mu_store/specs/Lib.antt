@@ -1,2 +1,6 @@
 pub mod Base
 pub mod View
+pub mod Marks
+pub mod Damage
+pub mod Judged
+pub mod Booted

@@ -2,10 +2,17 @@
 #![tactic(auto)]
 
 mod base;
+mod booting;
+mod digest;
 mod entries;
 mod faults;
+mod filling;
+mod judge;
+mod marks;
 mod store;
 
+pub use booting::{BootFail, BootWhy, Booted, boot};
 pub use faults::{Stopped, StoreFault};
+pub use filling::Filling;
 pub use mu_record::{BankState, Tag};
 pub use store::Store;
