@@ -2,3 +2,4 @@ pub mod EntryLemmas
 pub mod SpellLemmas
 pub mod WriteLemmas
 pub mod FoundLemmas
+pub mod AnewLemmas
