@@ -1,6 +1,7 @@
 -- The states that the calls on a store give are the next ones.
-use Rattle.std.proofs.Common.{◌≡◌, ◌⊎◌, inl, inr, ⊎_elim, ℕ, suc, zero, ◌+◌, ◌^◌, ◌<◌, ◌≤◌, Bool, true, false, List, [], ◌∷◌, length, refl, sym, ◌∙◌, subst, arith, get_or-set_other, get_or-set_same}
+use Rattle.std.proofs.Common.{◌*◌, replicate, ◌≡◌, ◌⊎◌, inl, inr, ⊎_elim, ℕ, suc, zero, ◌+◌, ◌^◌, ◌<◌, ◌≤◌, Bool, true, false, List, [], ◌∷◌, length, refl, sym, ◌∙◌, subst, arith, get_or-set_other, get_or-set_same}
 use Rattle.std.specs.Prelude.{slice_index_or}
+use Rattle.std.proofs.lemmas.List.{length-replicate}
 use Rattle.std.proofs.lemmas.Bool.{cases_eq}
 use Rattle.std.proofs.Math.ListN.{set, length-set}
 use Rattle.mu_model_flash.specs.Bits.{AreOctets, SameOutside}
@@ -9,10 +10,10 @@ use Rattle.mu_model_record.specs.declared.BankState.{BankState}
 use Rattle.mu_model_record.specs.declared.BankState.TheVariants.{Empty, Filling, Sealed}
 use Rattle.mu_model_record.specs.Page.{Word}
 use Rattle.mu_model_record.specs.Record.{IsRecord, IsEntryInRange, IsFilling, entry_of}
-use Rattle.mu_model_record.specs.Store.{Content, nothing, held, whole, StoreState, content_of_bank, BankHolds}
-use Rattle.mu_model_record.specs.Represents.{RepresentsAt}
+use Rattle.mu_model_record.specs.Store.{Content, nothing, held, whole, StoreState, content_of_bank, pages_of, BankHolds}
+use Rattle.mu_model_record.specs.Represents.{ControlPages, RepresentsAt}
 use Rattle.mu_model_record.specs.Next.{IsNext}
-use Rattle.mu_model_record.specs.Changes.{next_record, tagged, with_bank, cleared, released}
+use Rattle.mu_model_record.specs.Changes.{first_record, first_state, next_record, tagged, with_bank, cleared, released}
 use Rattle.mu_model_record.proofs.FrameLemmas.{banks_same}
 
 module _ (r : Record) (tag : List ℕ) (sound : IsRecord r) (next : r.count + 1 < 2 ^ 32) (size : length tag ≡ 1792) (small : AreOctets tag) where
@@ -216,3 +217,46 @@ module _ (page : ℕ) (word : Word) (d : StoreState) (old : List ℕ) (at : Repr
       each image b lt h (inr gone) =
           subst (λ (e : BankState). BankHolds (next_record d.present (cleared Empty named d.present.banks) tag) b e (slice_index_or (cleared nothing named d.contents) b nothing) image) (sym gone.0)
           (subst (λ (k : Content). BankHolds (next_record d.present (cleared Empty named d.present.banks) tag) b Empty k image) (sym gone.1) tt)
+
+-- record 1
+no_entry : (b : ℕ) → slice_index_or (Empty ∷ Empty ∷ Empty ∷ Empty ∷ []) b Empty ≡ Empty
+no_entry zero = refl
+no_entry (suc zero) = refl
+no_entry (suc (suc zero)) = refl
+no_entry (suc (suc (suc zero))) = refl
+no_entry (suc (suc (suc (suc b)))) = refl
+
+no_content : (n b : ℕ) → slice_index_or (replicate n nothing) b nothing ≡ nothing
+no_content zero b = refl
+no_content (suc n) zero = refl
+no_content (suc n) (suc b) = no_content n b
+
+pub first_is_record : (banks pages : ℕ) (tag : List ℕ) → 2 ≤ banks → banks ≤ 4 → 1 ≤ pages → pages ≤ 256 → length tag ≡ 1792 → AreOctets tag → IsRecord (first_record banks pages tag)
+first_is_record banks pages tag least most some few size small = record {
+  number_least = least;
+  number_most = most;
+  pages_least = some;
+  pages_most = few;
+  count_least = omega arith;
+  count_most = omega arith;
+  four = refl;
+  entries = λ b lt. subst (λ (e : BankState). IsEntryInRange (first_record banks pages tag) e) (sym (no_entry b)) tt;
+  not_there = λ b le lt. no_entry b;
+  one_filling = λ a b fa fb. absurd (subst (λ (e : BankState). IsFilling e) (no_entry a) fa);
+  tag_size = size;
+  tag_octets = small;
+}
+
+pub first_rests : (banks pages : ℕ) (tag : List ℕ) (b : ℕ) → ¬ IsFilling (entry_of (first_record banks pages tag) b)
+first_rests banks pages tag b filling = subst (λ (e : BankState). IsFilling e) (no_entry b) filling
+
+pub first_represents : (banks pages : ℕ) (tag : List ℕ) (word : Word) (image : List ℕ) → IsRecord (first_record banks pages tag) → length image ≡ 4096 * pages_of (first_record banks pages tag) → ControlPages 0 word (first_record banks pages tag) image
+    → RepresentsAt 0 word (first_state banks pages tag) image
+first_represents banks pages tag word image sound size control = record {
+  size = size;
+  in_range = sound;
+  control = control;
+  as_many = length-replicate banks nothing;
+  banks = λ b lt. subst (λ (e : BankState). BankHolds (first_record banks pages tag) b e (slice_index_or (replicate banks nothing) b nothing) image) (sym (no_entry b))
+      (subst (λ (k : Content). BankHolds (first_record banks pages tag) b Empty k image) (sym (no_content banks b)) tt);
+}

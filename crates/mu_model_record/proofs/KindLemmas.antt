@@ -1,17 +1,17 @@
 -- What a boot finds on a flash that represents a store.
-use Rattle.std.proofs.Common.{◌≡◌, ◌⊎◌, inl, inr, ⊎_elim, ℕ, ◌+◌, ◌*◌, ◌<◌, ◌≤◌, Option, Some, None, List, length, refl, sym, ◌∙◌, ap, subst, arith}
-use Rattle.std.specs.Prelude.{slice_index, slice_index_or, ◌≢◌}
+use Rattle.std.proofs.Common.{◌≡◌, ◌⊎◌, inl, inr, ⊎_elim, ℕ, ◌*◌, ◌<◌, ◌≤◌, Option, Some, None, List, refl, sym, ◌∙◌, ap, subst, arith}
+use Rattle.std.specs.Prelude.{slice_index, slice_index_or}
 use Rattle.sha2.specs.Sha256.{sha256}
 use Rattle.mu_model_image.specs.declared.Meta.{Meta}
 use Rattle.mu_model_image.specs.Pieces.{block_count}
 use Rattle.mu_model_record.specs.declared.Record.{Record}
 use Rattle.mu_model_record.specs.declared.BankState.{BankState}
-use Rattle.mu_model_record.specs.declared.BankState.TheVariants.{Empty, Filling, Sealed}
+use Rattle.mu_model_record.specs.declared.BankState.TheVariants.{Filling, Sealed}
 use Rattle.mu_model_record.specs.Page.{Word}
-use Rattle.mu_model_record.specs.Record.{IsRecord, IsWordOf, entry_of}
-use Rattle.mu_model_record.specs.Store.{Content, nothing, held, whole, StoreState, content_of_bank, pages_of, mark_place, bank_place, BlockLies, BankHolds}
-use Rattle.mu_model_record.specs.Represents.{IsOlder, ControlPages, RepresentsAt, RepresentsStore}
-use Rattle.mu_model_record.specs.Kinds.{HasWord, slot_of_word, NotBefore, IsRecordWord, IsBehind, IsPresent, HasPresent, AreMarks, AreFitBelow, sealed_octets, IsBlank, IsForeign, other_word, other_size, other_mark, IsDamaged, IsStore}
+use Rattle.mu_model_record.specs.Record.{IsWordOf}
+use Rattle.mu_model_record.specs.Store.{Content, nothing, held, whole, StoreState, content_of_bank, pages_of, mark_place, BlockLies, BankHolds}
+use Rattle.mu_model_record.specs.Represents.{RepresentsAt}
+use Rattle.mu_model_record.specs.Kinds.{HasWord, IsBehind, IsPresent, HasPresent, AreMarks, AreFitBelow, sealed_octets, IsBlank, IsForeign, other_word, other_size, other_mark, IsDamaged, IsStore}
 use Rattle.mu_model_record.proofs.RecordLemmas.{word_once}
 
 module _ (page : ℕ) (word : Word) (d : StoreState) (image : List ℕ) (at : RepresentsAt page word d image) where

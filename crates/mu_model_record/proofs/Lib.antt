@@ -9,4 +9,5 @@ pub mod NextLemmas
 pub mod RecordLemmas
 pub mod ChangeLemmas
 pub mod KindLemmas
+pub mod FreeLemmas
 pub mod PropLemmas

@@ -11,6 +11,13 @@ use Rattle.mu_model_record.specs.Store.{Content, nothing, held, whole, StoreStat
 abbrev pub next_record : Record → List BankState → List ℕ → Record
 next_record r entries tag = record { count = r.count + 1; pages = r.pages; number = r.number; banks = entries; tag = tag }
 
+-- record 1, with every bank Empty
+abbrev pub first_record : ℕ → ℕ → List ℕ → Record
+first_record banks pages tag = record { count = 1; pages = pages; number = banks; banks = Empty ∷ Empty ∷ Empty ∷ Empty ∷ []; tag = tag }
+
+abbrev pub first_state : ℕ → ℕ → List ℕ → StoreState
+first_state banks pages tag = record { present = first_record banks pages tag; contents = replicate banks nothing }
+
 -- the next record says this tag, and all else as before
 abbrev pub tagged : StoreState → List ℕ → StoreState
 tagged d tag = record { present = next_record d.present d.present.banks tag; contents = d.contents }
@@ -21,6 +28,13 @@ with_bank d b entry content tag = record {
   present = next_record d.present (slice_set d.present.banks b entry) tag;
   contents = slice_set d.contents b content;
 }
+
+-- the entries of a bank that is Filling and of one that is Sealed
+abbrev pub filling_entry : ℕ → ℕ → BankState
+filling_entry size log = Filling size log
+
+abbrev pub sealed_entry : Meta → BankState
+sealed_entry meta = Sealed meta
 
 -- the bank is Filling, and no block is held
 abbrev pub begun : StoreState → ℕ → ℕ → ℕ → List ℕ → StoreState

@@ -1,11 +1,12 @@
 -- What every typed state of a store keeps, and what a record that it writes does.
-use Rattle.std.specs.Prelude.{◌≡◌, ◌≤◌, IsTrue, Result, MatchResult, IfOk}
+use Rattle.std.specs.Prelude.{ℕ, ◌≡◌, ◌≤◌, IsTrue, ◌<◌, [], ◌∷◌, Result, MatchResult, IfOk, slice_index}
 use Rattle.mu_model_flash.specs.Bits.{SameOutside}
 use Rattle.mu_model_flash.specs.Cause.{Rose}
 use Rattle.mu_model_flash.specs.Flash.{Seen}
 use Rattle.mu_model_flash.specs.Run.{either, Ran, Broke}
 use Rattle.mu_model_record.specs.declared.Record.{Record}
-use Rattle.mu_model_record.specs.Store.{StoreState}
+use Rattle.mu_model_record.specs.Record.{IsFilling, entry_of}
+use Rattle.mu_model_record.specs.Store.{StoreState, mark_place}
 use Rattle.mu_model_record.specs.Represents.{RepresentsStore}
 use Rattle.mu_model_record.specs.Next.{IsNext, record_steps}
 use Rattle.mu_record.specs.Place.{HoldsAt}
@@ -34,3 +35,15 @@ WritesRecord seen base fields result =
     → MatchResult result
     (λ next. Ran (either RepresentsStore) d (record_steps base.place.fresh d e) (seen base.flash) (seen next.flash) × BaseHolds seen next e)
     (λ stopped. Broke (either RepresentsStore) d (record_steps base.place.fresh d e) (seen base.flash) (seen stopped.flash))
+
+-- each octet of a mark page reads FF
+abbrev pub AreBlankMarks : ℕ → Seen → Type 0
+AreBlankMarks bank f = IsTrue f.told → (i : ℕ) → i < 4096 → slice_index f.octets (mark_place bank i) ≡ 0xFF
+
+-- a mark page is erased, and the state stays
+abbrev pub ErasesMarks : {F : Type 0} {g : _} → (F → Seen) → Base F g → Result (Base F g) (Stopped F) → Type 0
+ErasesMarks seen base result =
+    (d : StoreState) → BaseHolds seen base d → ((b : ℕ) → ¬ IsFilling (entry_of base.fields b))
+    → MatchResult result
+    (λ next. Ran (either RepresentsStore) d (d ∷ []) (seen base.flash) (seen next.flash) × BaseHolds seen next d)
+    (λ stopped. Broke (either RepresentsStore) d (d ∷ []) (seen base.flash) (seen stopped.flash))

@@ -4,3 +4,4 @@ pub mod Marks
 pub mod Damage
 pub mod Judged
 pub mod Booted
+pub mod FillingView

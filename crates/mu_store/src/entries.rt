@@ -1,5 +1,5 @@
 // The entries of a record, changed.
-ghost use Rattle.std.specs.Prelude.{◌≡◌, if◌then◌else◌};
+ghost use Rattle.std.specs.Prelude.{◌≡◌, ◌<◌, if◌then◌else◌, slice_set};
 ghost use Rattle.mu_model_record.specs.declared.BankState.TheVariants.{Empty};
 ghost use Rattle.mu_model_record.specs.Changes.{cleared};
 
@@ -21,4 +21,14 @@ pub(crate) fn cleared(entries: &[BankState; 4], named: &[bool; 4]) -> [BankState
         empty_if(named[2], entries[2]),
         empty_if(named[3], entries[3]),
     ]
+}
+
+// The entries with another one of a bank.
+pub(crate) fn with_entry(entries: &[BankState; 4], bank: u8, entry: BankState) -> [BankState; 4]
+    requires { bank < 4 }
+    ensures { result ≡ slice_set entries.now bank entry }
+{
+    let mut changed = *entries;
+    changed[bank as usize] = entry;
+    changed
 }
