@@ -7,3 +7,7 @@ pub mod ControlLemmas
 pub mod FrameLemmas
 pub mod NextLemmas
 pub mod RecordLemmas
+pub mod ChangeLemmas
+pub mod KindLemmas
+pub mod FreeLemmas
+pub mod PropLemmas

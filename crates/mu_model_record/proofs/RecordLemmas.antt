@@ -1,13 +1,12 @@
 -- Octets are those of one record at most.
-use Rattle.std.proofs.Common.{◌≡◌, ℕ, ◌+◌, ◌*◌, ◌<◌, List, length, get_or, Some, sym, ◌∙◌, ap, subst, arith}
-use Rattle.std.proofs.lemmas.List.{ext_get_or, get_or-replicate}
-use Rattle.mu_model_image.specs.declared.Meta.{Meta}
+use Rattle.std.proofs.Common.{◌≡◌, ℕ, ◌+◌, ◌*◌, ◌<◌, List, length, get_or, Some, sym, ◌∙◌, ap, arith}
+use Rattle.std.proofs.lemmas.List.{ext_get_or}
 use Rattle.mu_model_flash.specs.Bits.{part_of}
 use Rattle.mu_model_record.specs.declared.Record.{Record}
 use Rattle.mu_model_record.specs.declared.BankState.{BankState}
 use Rattle.mu_model_record.specs.declared.BankState.TheVariants.{Empty, Filling, Sealed}
 use Rattle.mu_model_record.specs.Page.{Word, page_word, slot_word}
-use Rattle.mu_model_record.specs.Record.{zeros, IsEntry, IsFillingEntry, IsSealedEntry, entry_of, IsSpelled, IsRecord, IsWordOf}
+use Rattle.mu_model_record.specs.Record.{zeros, IsEntry, entry_of, IsSpelled, IsRecord, IsWordOf}
 
 no_state : (octets : List ℕ) → octets ≡ zeros 48 → get_or octets 0 0 ≡ 0
 unfolding zeros

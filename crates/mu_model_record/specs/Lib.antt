@@ -6,4 +6,5 @@ pub mod Store
 pub mod Represents
 pub mod Kinds
 pub mod Next
+pub mod Changes
 pub mod Laws

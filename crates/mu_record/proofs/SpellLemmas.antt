@@ -1,5 +1,5 @@
 -- A record as octets, part by part.
-use Rattle.std.proofs.Common.{◌≡◌, ◌⊎◌, ⊎_elim, inl, inr, ℕ, ◌+◌, ◌*◌, ◌/◌, ◌%◌, ◌^◌, ◌<◌, ◌≤◌, List, [], ◌∷◌, length, get_or, refl, sym, ◌∙◌, ap, subst, arith, take, drop}
+use Rattle.std.proofs.Common.{◌++◌, ◌-◌, ◌≡◌, ◌⊎◌, ⊎_elim, inl, inr, ℕ, ◌+◌, ◌*◌, ◌/◌, ◌%◌, ◌^◌, ◌<◌, ◌≤◌, List, [], ◌∷◌, length, get_or, refl, sym, ◌∙◌, ap, subst, arith, take, drop}
 use Rattle.std.specs.Prelude.{slice_index_or}
 use Rattle.std.proofs.lemmas.List.{ext_get_or, get_or-drop, get_or_past, take_all, length-drop}
 use Rattle.byteorder.specs.Endian.{little_number}
@@ -223,3 +223,11 @@ record_ranges r sound = (
   λ b lt. record { there = λ few. weaker_range r (entry_of r b) (sound.entries b few); not_there = λ le. sound.not_there b le lt },
   λ a b la lb fa fb. sound.one_filling a b fa fb,
 )
+
+pub zeros_after : (slot : List ℕ) → length slot ≡ 512 → written (zeros 2048) 0 slot ≡ slot ++ zeros 1536
+unfolding written
+zeros_after slot size = ap (λ (l : List ℕ). slot ++ l) (ap (λ (n : ℕ). drop (0 + n) (zeros 2048)) size ∙ rest)
+  where
+    rest : drop 512 (zeros 2048) ≡ zeros 1536
+    rest = ext_get_or 0 (drop 512 (zeros 2048)) (zeros 1536) (length-drop 512 (zeros 2048) ∙ ap (λ (n : ℕ). n - 512) (length-zeros 2048) ∙ sym (length-zeros 1536))
+        (λ i lt. get_or-drop 512 (zeros 2048) i 0 ∙ get-zeros 2048 (512 + i) ∙ sym (get-zeros 1536 i))

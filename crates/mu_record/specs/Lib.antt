@@ -2,3 +2,5 @@ pub mod Entries
 pub mod Header
 pub mod Ranges
 pub mod Place
+pub mod Reads
+pub mod Found

@@ -7,7 +7,7 @@ use Rattle.mu_model_flash.specs.Run.{either, Ran, Broke}
 use Rattle.mu_model_record.specs.declared.Record.{Record}
 use Rattle.mu_model_record.specs.Page.{Word}
 use Rattle.mu_model_record.specs.Store.{StoreState}
-use Rattle.mu_model_record.specs.Represents.{RepresentsAt, RepresentsStore, IsFollowedBy, IsBeforeFresh}
+use Rattle.mu_model_record.specs.Represents.{ControlPages, RepresentsAt, RepresentsStore, IsFollowedBy, IsBeforeFresh}
 use Rattle.mu_model_record.specs.Next.{IsNext}
 use Rattle.mu_record.specs.declared.write.Place.{Place}
 
@@ -37,3 +37,14 @@ WritesNext old new page fresh r steps result =
     → MatchResult result
     (λ place. Ran (either RepresentsStore) d (steps d e) old new × HoldsAt new place.page place.fresh e)
     (λ _. Broke (either RepresentsStore) d (steps d e) old new)
+
+-- whatever the octets are
+abbrev pub Anything : Unit {0} → List ℕ → Type 0
+Anything here c = Unit {0}
+
+-- the control pages of a flash whose one record is this, before so many fresh slots
+pub record IsFirst (r : Record) (fresh : ℕ) (octets : List ℕ) : Type 0 where
+  pub word : Word
+  pub control : ControlPages 0 word r octets
+  pub is_before : IsBeforeFresh word fresh
+  pub followed : IsFollowedBy 0 fresh octets

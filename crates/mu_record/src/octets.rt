@@ -30,7 +30,7 @@ fn header_octets(fields: &Record, format: u8) -> [u8; 16]
 }
 
 // The octets of a record before anything is put there.
-fn no_octets() -> [u8; 2048]
+pub(crate) fn no_octets() -> [u8; 2048]
     ensures { result ≡ zeros 2048 }
 {
     [0; 2048]

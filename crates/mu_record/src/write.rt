@@ -2,10 +2,10 @@
 ghost use Rattle.std.specs.Prelude.{◌≡◌, ℕ, ◌+◌, ◌-◌, ◌*◌, ◌<◌, ◌≤◌, ◌++◌, [], ◌∷◌, true, false, IsTrue, IfOk, OnOk, Result, length, take};
 ghost use Rattle.mu_model_flash.specs.Bits.{AreOctets};
 ghost use Rattle.mu_model_flash.specs.Cause.{HasCause};
-ghost use Rattle.mu_model_flash.specs.Run.{Keeps};
+ghost use Rattle.mu_model_flash.specs.Run.{either, Keeps, Runs};
 ghost use Rattle.mu_model_record.specs.Record.{zeros, IsRecord, IsSpelled, IsShort};
 ghost use Rattle.mu_model_record.specs.Next.{is_short, record_steps, fresh_after};
-ghost use Rattle.mu_record.specs.Place.{IsPlace, WritesNext, StaysPast};
+ghost use Rattle.mu_record.specs.Place.{Anything, IsFirst, IsPlace, WritesNext, StaysPast};
 
 use crate::entry::is_zero;
 use crate::octets::record_octets;
@@ -129,4 +129,55 @@ pub fn write_record<F: Flash>(flash: &mut F, place: Place, fields: &Record) -> R
         return write_next(flash, place, fields);
     }
     write_first(flash, place, fields)
+}
+
+// Record 1 in the first slot of page 0.
+fn write_short_anew<F: Flash>(flash: &mut F, fields: &Record) -> Result<(), Failed>
+    requires both { 2 ≤ (F.seen flash.old).pages }
+    requires in_range { IsRecord fields.now }
+    requires short { IsShort fields.now }
+    ensures keeps { Keeps (F.seen flash.old) (F.seen flash.new) }
+    ensures stays { StaysPast (F.seen flash.old) (F.seen flash.new) result }
+    ensures control { IsTrue (F.seen flash.old).told → OnOk result (IsFirst fields.now 3 (F.seen flash.new).octets) }
+    ensures runs { Runs (either Anything) tt (tt ∷ tt ∷ tt ∷ []) (F.seen flash.old) (F.seen flash.new) result }
+    ensures cause { HasCause (F.seen flash.old).faults (F.seen flash.new).faults result }
+{
+    erase_page(flash, 1)?;
+    erase_page(flash, 0)?;
+    write_slot(flash, 0, 0, &slot_octets(fields))
+}
+
+// Record 1 as page 0.
+fn write_long_anew<F: Flash>(flash: &mut F, fields: &Record) -> Result<(), Failed>
+    requires both { 2 ≤ (F.seen flash.old).pages }
+    requires in_range { IsRecord fields.now }
+    ensures keeps { Keeps (F.seen flash.old) (F.seen flash.new) }
+    ensures stays { StaysPast (F.seen flash.old) (F.seen flash.new) result }
+    ensures control { IsTrue (F.seen flash.old).told → OnOk result (IsFirst fields.now 0 (F.seen flash.new).octets) }
+    ensures runs { Runs (either Anything) tt (tt ∷ tt ∷ tt ∷ []) (F.seen flash.old) (F.seen flash.new) result }
+    ensures cause { HasCause (F.seen flash.old).faults (F.seen flash.new).faults result }
+{
+    erase_page(flash, 1)?;
+    write_page(flash, 0, &record_octets(fields, LONG))
+}
+
+/// Erases both control pages and writes this record on page 0: three operations.
+pub fn write_anew<F: Flash>(flash: &mut F, fields: &Record) -> Result<Place, Failed>
+    requires both { 2 ≤ (F.seen flash.old).pages }
+    requires in_range { IsRecord fields.now }
+    ensures place { IfOk result (λ place. IsPlace (F.seen flash.new) place.page place.fresh) }
+    ensures first { IfOk result (λ place. (place.page ≡ 0) × (place.fresh ≡ fresh_after 0 fields.now)) }
+    ensures keeps { Keeps (F.seen flash.old) (F.seen flash.new) }
+    ensures stays { StaysPast (F.seen flash.old) (F.seen flash.new) result }
+    ensures control { IsTrue (F.seen flash.old).told → IfOk result (λ place. IsFirst fields.now place.fresh (F.seen flash.new).octets) }
+    ensures runs { Runs (either Anything) tt (tt ∷ tt ∷ tt ∷ []) (F.seen flash.old) (F.seen flash.new) result }
+    ensures cause { HasCause (F.seen flash.old).faults (F.seen flash.new).faults result }
+{
+    if is_short(fields) {
+        write_short_anew(flash, fields)?;
+        Ok(Place { page: 0, fresh: 3 })
+    } else {
+        write_long_anew(flash, fields)?;
+        Ok(Place { page: 0, fresh: 0 })
+    }
 }

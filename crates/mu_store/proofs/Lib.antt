@@ -1,0 +1,6 @@
+pub mod StoreLemmas
+pub mod ReadLemmas
+pub mod JudgeLemmas
+pub mod BootLemmas
+pub mod FreeBase
+pub mod FillLemmas

@@ -1,0 +1,121 @@
+// A store of which one bank is being filled.
+ghost use Rattle.std.specs.Prelude.{◌≡◌, ℕ, ◌+◌, ◌-◌, ◌*◌, ◌<◌, ◌^◌, ◌↔◌, IfOk, IfErr, IsErrAnd, IsTrue, false, slice_index, slice_index_or};
+ghost use Rattle.mu_model_image.specs.Pieces.{block_count};
+ghost use Rattle.mu_model_record.specs.declared.BankState.TheVariants.{Filling};
+ghost use Rattle.mu_model_record.specs.Record.{entry_of};
+ghost use Rattle.mu_model_record.specs.Store.{mark_place};
+ghost use Rattle.mu_model_record.proofs.PropLemmas.{bank_set};
+
+use crate::base::Base;
+use crate::entries::with_entry;
+use crate::faults::{Stopped, StoreFault};
+use crate::store::Store;
+use mu_outside::Flash;
+use mu_record::{BankState, Record, Tag};
+
+/// A store of which one bank is being filled. It owns its flash.
+#[derive(Drop)]
+pub struct Filling<F: Flash> {
+    pub(crate) base: Base<F>,
+    pub(crate) bank: u8,
+    pub(crate) size: u32,
+    pub(crate) log: u8,
+    pub(crate) held: [bool; 256],
+    ghost there: { bank < base.fields.number },
+    ghost entry: { entry_of base.fields bank ≡ Filling size log } by { bank_set (entry_of base.fields bank) (Filling size log) },
+    ghost unset: { IsTrue (F.seen base.flash).told → (i : ℕ) → i < block_count size log → slice_index_or held i false ≡ false → slice_index (F.seen base.flash).octets (mark_place bank i) ≡ 0xFF },
+}
+
+impl<F: Flash> Filling<F> {
+    ghost use Rattle.std.specs.Prelude.{slice_set};
+    ghost use Rattle.mu_model_flash.specs.Run.{either, Goes};
+    ghost use Rattle.mu_model_record.specs.Store.{StoreState};
+    ghost use Rattle.mu_model_record.specs.Represents.{RepresentsStore};
+    ghost use Rattle.mu_model_record.specs.Next.{record_steps, fresh_after};
+    ghost use Rattle.mu_model_record.specs.declared.BankState.TheVariants.{Empty};
+    ghost use Rattle.mu_model_record.specs.Changes.{next_record, tagged, emptied};
+    ghost use Rattle.mu_store.specs.Booted.{FillingHolds};
+    ghost use Rattle.mu_store.specs.View.{store_flash, store_record, store_fresh, StoreHolds, stopped_seen, ByFlash, StoreFaults};
+    ghost use Rattle.mu_store.specs.FillingView.{filling_flash, filling_record, filling_fresh, filling_bank, filling_size, filling_log, filling_flags, IsFillingOf, FillingFaults};
+
+    /// Writes one record with this tag, all else as it was. `Worn` comes where the count stands at 4,294,967,295, before anything is written.
+    pub fn commit(self, tag: &Tag) -> Result<Filling<F>, Stopped<F>>
+        ensures fields { IfOk result (λ filling. filling_record filling ≡ next_record (filling_record self) (filling_record self).banks tag.now) }
+        ensures bank { IfOk result (IsFillingOf (filling_bank self) (filling_size self) (filling_log self) (filling_flags self)) }
+        ensures fresh { IfOk result (λ filling. filling_fresh filling ≡ fresh_after (filling_fresh self) (filling_record filling)) }
+        ensures worn { IsErrAnd result (λ stopped. stopped.why ≡ StoreFault.Worn) ↔ ((filling_record self).count ≡ 2 ^ 32 - 1) }
+        ensures untouched { IfErr result (λ stopped. stopped.why ≡ StoreFault.Worn → stopped.flash ≡ filling_flash self) }
+        ensures runs { (d : StoreState) → FillingHolds F.seen self d
+            → Goes (either RepresentsStore) d (record_steps (filling_fresh self) d (tagged d tag.now)) (F.seen (filling_flash self))
+            (λ filling. F.seen (filling_flash filling)) (stopped_seen F.seen) (FillingHolds F.seen) ByFlash result }
+        ensures cause { FillingFaults (F.seen (filling_flash self)) F.seen result }
+    {
+        let Filling {
+            base,
+            bank,
+            size,
+            log,
+            held,
+        } = self;
+        if base.fields.count == u32::MAX {
+            return Err(Stopped {
+                why: StoreFault::Worn,
+                flash: base.flash,
+            });
+        }
+        let fields = Record {
+            count: base.fields.count + 1,
+            pages: base.fields.pages,
+            number: base.fields.number,
+            banks: base.fields.banks,
+            tag: *tag,
+        };
+        match base.write(fields) {
+            Ok(base) => Ok(Filling {
+                base,
+                bank,
+                size,
+                log,
+                held,
+            }),
+            Err(stopped) => Err(stopped),
+        }
+    }
+
+    /// The bank becomes Empty, in one record with this tag.
+    pub fn give_up(self, tag: &Tag) -> Result<Store<F>, Stopped<F>>
+        ensures fields { IfOk result (λ store. store_record store ≡ next_record (filling_record self) (slice_set (filling_record self).banks (filling_bank self) Empty) tag.now) }
+        ensures fresh { IfOk result (λ store. store_fresh store ≡ fresh_after (filling_fresh self) (store_record store)) }
+        ensures worn { IsErrAnd result (λ stopped. stopped.why ≡ StoreFault.Worn) ↔ ((filling_record self).count ≡ 2 ^ 32 - 1) }
+        ensures untouched { IfErr result (λ stopped. stopped.why ≡ StoreFault.Worn → stopped.flash ≡ filling_flash self) }
+        ensures runs { (d : StoreState) → FillingHolds F.seen self d
+            → Goes (either RepresentsStore) d (record_steps (filling_fresh self) d (emptied d (filling_bank self) tag.now)) (F.seen (filling_flash self))
+            (λ store. F.seen (store_flash store)) (stopped_seen F.seen) (StoreHolds F.seen) ByFlash result }
+        ensures cause { StoreFaults (F.seen (filling_flash self)) F.seen result }
+    {
+        let Filling {
+            base,
+            bank,
+            size: _,
+            log: _,
+            held: _,
+        } = self;
+        if base.fields.count == u32::MAX {
+            return Err(Stopped {
+                why: StoreFault::Worn,
+                flash: base.flash,
+            });
+        }
+        let fields = Record {
+            count: base.fields.count + 1,
+            pages: base.fields.pages,
+            number: base.fields.number,
+            banks: with_entry(&base.fields.banks, bank, BankState::Empty),
+            tag: *tag,
+        };
+        match base.write(fields) {
+            Ok(base) => Ok(Store { base }),
+            Err(stopped) => Err(stopped),
+        }
+    }
+}
