@@ -1,3 +1,5 @@
 pub mod Worked
 pub mod Local
 pub mod Pairs
+pub mod Nodes
+pub mod Receivers
