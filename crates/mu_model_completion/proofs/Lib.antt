@@ -3,3 +3,5 @@ pub mod Local
 pub mod Pairs
 pub mod Nodes
 pub mod Receivers
+pub mod Stations
+pub mod Asking
