@@ -5,3 +5,4 @@ pub mod Nodes
 pub mod Receivers
 pub mod Stations
 pub mod Asking
+pub mod First

@@ -91,18 +91,18 @@ module _ (capacity : ℕ) (active : Image) (images : List Image) (count fresh : 
 
   module _ (p : Sending) (meta : Meta) (image : List ℕ) (o : Offer p meta image capacity active) (u now : ℕ) where
     -- 1
-    pub idle_check : Does (asks (idle capacity (active ∷ images) count fresh session now) u (OfUpdate (MetadataCheck 0 (meta_octets meta))) now)
+    pub idle_check : (m : ℕ) → m ≤ now → Does (asks (idle capacity (active ∷ images) count fresh session m) u (OfUpdate (MetadataCheck 0 (meta_octets meta))) now)
         (idle capacity (active ∷ images) count fresh session now) ((u, ByUpdate (MetadataStatus 0 0)) ∷ [])
-    idle_check = let x : max now now ≡ now = later_is now now (omega arith) in record { next_is = rw x refl; says = rw (o.metadata, o.room, o.newer) refl }
+    idle_check m le = let x : max m now ≡ now = later_is m now le in record { next_is = rw x refl; says = rw (o.metadata, o.room, o.newer) refl }
 
     -- 2
     abbrev pub taken_by : (count fresh heard moment : ℕ) → NodeState
     taken_by c f h m = node_at capacity (active ∷ images) (Some (job_in p meta Filling None [])) c f (session_in Ready None None None h) m
 
-    pub idle_start : Does
-        (asks (idle capacity (active ∷ images) count fresh session now) u (OfUpdate (StartUpdate (record { ttl = p.ttl; base = p.base; id = p.id; index = 0; metadata = meta_octets meta }))) now)
+    pub idle_start : (m : ℕ) → m ≤ now → Does
+        (asks (idle capacity (active ∷ images) count fresh session m) u (OfUpdate (StartUpdate (record { ttl = p.ttl; base = p.base; id = p.id; index = 0; metadata = meta_octets meta }))) now)
         (taken_by (count + 1) (fresh_after false fresh) now now) ((u, ByUpdate (UpdateStatus 0 2 (Some (shown p meta)))) ∷ [])
-    idle_start = let x : max now now ≡ now = later_is now now (omega arith) in record { next_is = rw (x, o.metadata, o.room, o.newer) refl; says = rw (o.metadata, o.room, o.newer) refl }
+    idle_start m le = let x : max m now ≡ now = later_is m now le in record { next_is = rw (x, o.metadata, o.room, o.newer) refl; says = rw (o.metadata, o.room, o.newer) refl }
 
 -- ---- with the job
 

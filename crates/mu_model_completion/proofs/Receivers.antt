@@ -68,15 +68,15 @@ missing_empty (suc n) = ap (λ xs. true ∷ xs) (missing_empty n)
 fewer : (n : ℕ) → nat_le (size_of (every_number (suc n))) (size_of (no_number (suc n))) ≡ false
 fewer n = let a = every_size (suc n) in let b = none_size (suc n) in grind (arith, nat_tests, a, b)
 
+-- what its own node replies reaches a receiver
+pub tell_own : (v : Client) (u : ℕ) (address : ℕ) (reply : Reply) (r : Receiver) → r.row.address ≡ address
+    → tells v u (map (replied_by address) ((u, reply) ∷ [])) r ≡ t.receiver_told v (heard reply) r
+tell_own v u address reply r e = rw (same u, eq-eqb r.row.address address e) refl
+
 module _ (p : Sending) (meta : Meta) where
   -- a client in a step
   abbrev pub view : Step → Client
   view step = record { sending = p; purpose = Update meta true; receivers = []; place = At step; queue = []; began = 0; moment = 0 }
-
-  -- what its own node replies reaches it
-  pub tell_own : (v : Client) (u : ℕ) (address : ℕ) (reply : Reply) (r : Receiver) → r.row.address ≡ address
-      → tells v u (map (replied_by address) ((u, reply) ∷ [])) r ≡ t.receiver_told v (heard reply) r
-  tell_own v u address reply r e = rw (same u, eq-eqb r.row.address address e) refl
 
   pub told_check : (a : ℕ) (blocks chunks : List Bool) → t.receiver_told (view Check) (heard (ByUpdate (MetadataStatus 0 0))) (rcv a 10 blocks chunks true) ≡ rcv a 10 blocks chunks false
   told_check a blocks chunks = refl
