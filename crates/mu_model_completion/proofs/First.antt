@@ -154,13 +154,13 @@ module _ (fields : FieldsAreRead) (p : Sending) (meta : Meta) (image : List ℕ)
       lately = (let l = h.lately in omega (arith, l)); n_is = time_node v u x _ (runs_passes held last a short lt h);
     }, time_receiver v u x _ (runs_passes held last a short lt h))
 
-    row_later : (phase : ℕ) (bs cs : List Bool) (pending : Bool) → (pair_time v u x).r ≡ x.r → Row phase bs cs pending x → Row phase bs cs pending (pair_time v u x)
+    pub row_later : (phase : ℕ) (bs cs : List Bool) (pending : Bool) → (pair_time v u x).r ≡ x.r → Row phase bs cs pending x → Row phase bs cs pending (pair_time v u x)
     row_later phase bs cs pending e h = record { r_is = e ∙ h.r_is }
 
-  row_pending : (phase : ℕ) (bs cs : List Bool) (pending : Bool) (x : Pair) → Row phase bs cs pending x → x.r.pending ≡ pending
+  pub row_pending : (phase : ℕ) (bs cs : List Bool) (pending : Bool) (x : Pair) → Row phase bs cs pending x → x.r.pending ≡ pending
   row_pending phase bs cs pending x h = ap (λ (r : Receiver). r.pending) h.r_is
 
-  row_index : (phase : ℕ) (bs cs : List Bool) (pending : Bool) (x : Pair) → Row phase bs cs pending x → x.r.row.index ≡ 0
+  pub row_index : (phase : ℕ) (bs cs : List Bool) (pending : Bool) (x : Pair) → Row phase bs cs pending x → x.r.row.index ≡ 0
   row_index phase bs cs pending x h = ap (λ (r : Receiver). r.row.index) h.r_is
 
   -- ---- 1 check

@@ -6,3 +6,5 @@ pub mod Receivers
 pub mod Stations
 pub mod Asking
 pub mod First
+pub mod Pieces
+pub mod Blocks

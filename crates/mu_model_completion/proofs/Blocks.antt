@@ -1,0 +1,149 @@
+-- A block: begun, its chunks, and what is asked after them.
+use Rattle.std.proofs.Common.{◌≡◌, ◌⊎◌, inl, inr, ◌<◌, ◌≤◌, ◌+◌, ◌-◌, ◌*◌, ◌^◌, ◌==◌, ℕ, zero, suc, List, [], ◌∷◌, ◌++◌, refl, sym, ap, ◌∙◌, subst, true, false, Bool, Option, Some, None, arith, map, max, min, length, take, drop}
+use Rattle.std.specs.Prelude.{◌&&◌, ◌||◌, not, if◌then◌else◌, nat_lt, nat_le, replicate}
+use Rattle.std.specs.List.{list_any, flat_map, range_with_len, AllByRecursion, concat}
+use Rattle.std.proofs.lemmas.Bool.{eq-eqb, eqb-true}
+use Rattle.std.proofs.lemmas.Bool.Decides.{nat_tests}
+use Rattle.mu_model_image.specs.declared.Meta.{Meta}
+use Rattle.mu_model_image.specs.Meta.{Image, is_fit}
+use Rattle.mu_model_image.specs.Pieces.{block_of, block_count, block_length, blocks_of, chunk_of, chunk_count, chunk_length, chunks_of}
+use Rattle.mu_model_image.specs.Laws.{BlocksAreTheImage, BlocksAreThoseWithin, BlockHasItsLength, ChunksAreTheBlock, ChunksAreThoseWithin, ChunkHasItsLength}
+use Rattle.mu_model_wire.specs.Reports.{every_number, no_number}
+use Rattle.mu_model_wire.specs.declared.reports.Report.TheVariants.{All, Nothing}
+use Rattle.mu_model_node.specs.declared.LastBlock.{LastBlock}
+use Rattle.mu_model_node.specs.declared.Stored.TheVariants.{Verified}
+use Rattle.mu_model_node.specs.Slots.{Slots, empty, is_full, at, put, joined, missing}
+use Rattle.mu_model_node.specs.BlobMessages.{BlockStart, BlockGet, ChunkTransfer, BlockStatus}
+use Rattle.mu_model_node.specs.FlashWork.{fresh_after}
+use Rattle.mu_model_node.specs.NodeMessages.{Request, OfBlob, Reply, ByBlob}
+use Rattle.mu_model_node.specs.NodeState.{NodeState}
+use Rattle.mu_model_client.specs.declared.Sending.{Sending}
+use Rattle.mu_model_client.specs.Client.{Client, Receiver, Step, Block, Chunks, Get, Item, Says, Sends, block_total, chunk_total, full_chunks}
+use Rattle.mu_model_client.specs.Lists.{chunk_octets}
+use Rattle.mu_model_client_laws.specs.Laws.{FieldsAreRead}
+use Rattle.mu_model_completion.proofs.Local.{tells}
+use Rattle.mu_model_completion.proofs.Pairs.{Pair, answered_by, pair_time}
+use Rattle.mu_model_completion.proofs.Nodes.{Does, passes, asks, Offer, running, block_time, running_block, chunk_more, chunk_last, chunk_long, current_in, last_in, running_get, sealed_in, verifies, verified_time, verified_get}
+use Rattle.mu_model_completion.proofs.Receivers.{rcv, view, told_block, told_get}
+use Rattle.mu_model_completion.proofs.Asking.{Asking}
+use Rattle.mu_model_completion.proofs.First.{Good, Row, row_answered, row_pending, row_later, Runs, runs_later, time_node, time_receiver, in_time, row_place}
+use Rattle.mu_model_completion.proofs.Pieces.{filled, put_here, at_next, not_full, full, places, all_joined, lacking_from, one_held}
+
+-- blocks and chunks tile the image
+pub record Tiles : Type 0 where
+  pub blocks_joined : BlocksAreTheImage
+  pub blocks_within : BlocksAreThoseWithin
+  pub block_long : BlockHasItsLength
+  pub chunks_joined : ChunksAreTheBlock
+  pub chunks_within : ChunksAreThoseWithin
+  pub chunk_long : ChunkHasItsLength
+
+module _ (fields : FieldsAreRead) (tiles : Tiles) (p : Sending) (meta : Meta) (image : List ℕ) (u blocks : ℕ) (good : Good p blocks) (most : ℕ) (few : 3 * most < 99)
+    (whole : length image ≡ p.size) (chunk_some : 0 < p.chunk) where
+  -- the blocks of the image, and the chunks of a block
+  abbrev pub blk : ℕ → List ℕ
+  blk b = block_of image p.log b
+
+  abbrev pub chk : ℕ → ℕ → List ℕ
+  chk b k = chunk_octets p image b k
+
+  -- the first b blocks are held, and n are not
+  abbrev pub held_of : ℕ → ℕ → Slots
+  held_of b n = filled blk 0 b ++ empty n
+
+  abbrev pub got_of : ℕ → ℕ → ℕ → Slots
+  got_of b k rem = filled (chk b) 0 k ++ empty rem
+
+  -- in block b, of whose chunks k have come and rem haven't
+  pub record InBlock (b n k rem a : ℕ) (x : Pair) : Type 0 where
+    pub capacity : ℕ
+    pub active : Image
+    pub images : List Image
+    pub offer : Offer p meta image capacity active
+    pub count : ℕ
+    pub fresh : ℕ
+    pub heard : ℕ
+    pub last : Option LastBlock
+    pub lately : x.moment ≤ heard + 100 * a
+    pub n_is : x.n ≡ running p meta image capacity active images offer u 0 0 (held_of b (suc n)) (Some (current_in p meta image capacity active images offer u 0 0 b (got_of b k rem))) last count fresh heard x.moment
+
+  abbrev pub last_of : ℕ → LastBlock
+  last_of b = record { number = b; chunk_size = p.chunk }
+
+  -- ---- time
+
+  module _ (v : Client) (x : Pair) where
+    in_block_passes : (b n k rem a : ℕ) → a < 99 → (h : InBlock b n k rem a x)
+        → Does (passes x.n (x.moment + 100)) (running p meta image h.capacity h.active h.images h.offer u 0 0 (held_of b (suc n)) (Some (current_in p meta image h.capacity h.active h.images h.offer u 0 0 b (got_of b k rem))) h.last h.count h.fresh h.heard (x.moment + 100)) []
+    in_block_passes b n k rem a lt h =
+        subst (λ s. Does (passes s (x.moment + 100)) (running p meta image h.capacity h.active h.images h.offer u 0 0 (held_of b (suc n)) (Some (current_in p meta image h.capacity h.active h.images h.offer u 0 0 b (got_of b k rem))) h.last h.count h.fresh h.heard (x.moment + 100)) []) (sym h.n_is)
+            (block_time p meta image h.capacity h.active h.images h.offer u 0 0 (held_of b (suc n)) (current_in p meta image h.capacity h.active h.images h.offer u 0 0 b (got_of b k rem)) h.last h.count h.fresh h.heard x.moment (x.moment + 100)
+                good.no_pull (not_full blk b 0 n) (omega arith) (in_time p x.moment h.heard a h.lately lt))
+
+    pub in_block_later : (b n k rem a : ℕ) → a < 99 → InBlock b n k rem a x → InBlock b n k rem (suc a) (pair_time v u x) × ((pair_time v u x).r ≡ x.r)
+    in_block_later b n k rem a lt h = (record {
+      capacity = h.capacity; active = h.active; images = h.images; offer = h.offer; count = h.count; fresh = h.fresh; heard = h.heard; last = h.last;
+      lately = (let l = h.lately in omega (arith, l)); n_is = time_node v u x _ (in_block_passes b n k rem a lt h);
+    }, time_receiver v u x _ (in_block_passes b n k rem a lt h))
+
+  -- ---- 5 block
+
+  abbrev pub SomeRun : Slots → ℕ → Pair → Type 0
+  SomeRun held a x = (last : Option LastBlock) × Runs fields p meta image u blocks good most few held last a x
+
+  abbrev pub SomeRow : ℕ → List Bool → Pair → Type 0
+  SomeRow phase bs x = (cs : List Bool) × Row phase bs cs true x
+
+  abbrev pub BlockW : ℕ → ℕ → ℕ → Pair → Type 0
+  BlockW b n j x = SomeRow 2 (lacking_from b (suc n)) x × SomeRun (held_of b (suc n)) (most + j) x
+
+  abbrev pub BlockD : ℕ → ℕ → ℕ → ℕ → Pair → Type 0
+  BlockD b n c j x = Row 2 (lacking_from b (suc n)) (every_number (suc c)) false x × InBlock b n 0 (suc c) j x
+
+  abbrev pub block_request : ℕ → Request
+  block_request b = OfBlob (BlockStart b p.chunk)
+
+  abbrev pub block_reply : ℕ → Reply
+  block_reply b = ByBlob (BlockStatus 0 b p.chunk All)
+
+  there : (b n : ℕ) → nat_le (length (held_of b (suc n))) b ≡ false
+  there b n = let h = places blk b 0 (suc n) in grind (arith, nat_tests, h)
+
+  module _ (b n c : ℕ) (total : chunk_total p b ≡ suc c) (j : ℕ) (x : Pair) (w : BlockW b n j x) where
+    begins_block : Does (asks x.n u (block_request b) x.moment)
+        (running p meta image w.1.1.capacity w.1.1.active w.1.1.images w.1.1.offer u 0 0 (held_of b (suc n)) (Some (current_in p meta image w.1.1.capacity w.1.1.active w.1.1.images w.1.1.offer u 0 0 b (empty (suc c)))) w.1.0 w.1.1.count w.1.1.fresh x.moment x.moment)
+        ((u, block_reply b) ∷ [])
+    begins_block =
+        subst (λ s. Does (asks s u (block_request b) x.moment)
+            (running p meta image w.1.1.capacity w.1.1.active w.1.1.images w.1.1.offer u 0 0 (held_of b (suc n)) (Some (current_in p meta image w.1.1.capacity w.1.1.active w.1.1.images w.1.1.offer u 0 0 b (empty (suc c)))) w.1.0 w.1.1.count w.1.1.fresh x.moment x.moment)
+            ((u, block_reply b) ∷ [])) (sym w.1.1.n_is)
+            (running_block p meta image w.1.1.capacity w.1.1.active w.1.1.images w.1.1.offer u 0 0 (held_of b (suc n)) w.1.0 w.1.1.count w.1.1.fresh w.1.1.heard x.moment b c total (not_full blk b 0 n) (there b n) (at_next blk b 0 n))
+
+    pub block_answered : BlockD b n c j (answered_by (view p meta (Block b)) u x (asks x.n u (block_request b) x.moment))
+    block_answered = (
+      row_answered (view p meta (Block b)) u x (block_request b) _ (block_reply b) 2 2 (lacking_from b (suc n)) w.0.0 (lacking_from b (suc n)) (every_number (suc c)) begins_block w.0.1
+          (told_block p meta x.config.address b c (lacking_from b (suc n)) w.0.0 total),
+      record {
+        capacity = w.1.1.capacity; active = w.1.1.active; images = w.1.1.images; offer = w.1.1.offer; count = w.1.1.count; fresh = w.1.1.fresh; heard = x.moment; last = w.1.0;
+        lately = omega arith; n_is = begins_block.next_is;
+      })
+
+  run_later : (v : Client) (x : Pair) (held : Slots) (a j : ℕ) → is_full held ≡ false → a + j < 99 → SomeRun held (a + j) x → SomeRun held (a + suc j) (pair_time v u x) × ((pair_time v u x).r ≡ x.r)
+  run_later v x held a j short lt h =
+      let t = runs_later fields p meta image u blocks good most few v x held h.0 (a + j) short lt h.1 in
+      let e : suc (a + j) ≡ a + suc j = omega arith in
+      ((h.0, subst (λ n. Runs fields p meta image u blocks good most few held h.0 n (pair_time v u x)) e t.0), t.1)
+
+  pub block_asking : (b n c : ℕ) → chunk_total p b ≡ suc c → Asking p meta u (Block b) (block_request b) (BlockW b n) (BlockD b n c) most
+  block_asking b n c total = record {
+    waits = λ j x w. row_pending fields p meta image u blocks good most few 2 (lacking_from b (suc n)) w.0.0 true x w.0.1;
+    is_done = λ j x w. row_pending fields p meta image u blocks good most few 2 (lacking_from b (suc n)) (every_number (suc c)) false x w.0;
+    place = λ j x w. row_place 2 (lacking_from b (suc n)) w.0.0 true x w.0.1;
+    message = λ j x w. refl;
+    time_waits = λ j x lt w. (let t = run_later (view p meta (Block b)) x (held_of b (suc n)) most j (not_full blk b 0 n) (omega (arith, lt, few)) w.1 in
+      (((w.0.0, row_later fields p meta image u blocks good most few (view p meta (Block b)) x 2 (lacking_from b (suc n)) w.0.0 true t.1 w.0.1), t.0), t.1));
+    time_done = λ j x lt w. (let t = in_block_later (view p meta (Block b)) x b n 0 (suc c) j (omega (arith, lt, few)) w.1 in
+      ((row_later fields p meta image u blocks good most few (view p meta (Block b)) x 2 (lacking_from b (suc n)) (every_number (suc c)) false t.1 w.0, t.0), t.1));
+    asked = λ j x w. block_answered b n c total (suc j) x w;
+    counts = λ c. refl;
+  }
