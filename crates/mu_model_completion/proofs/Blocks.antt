@@ -26,7 +26,8 @@ use Rattle.mu_model_completion.proofs.Pairs.{Pair, answered_by, pair_time}
 use Rattle.mu_model_completion.proofs.Nodes.{Does, passes, asks, Offer, running, block_time, running_block, chunk_more, chunk_last, chunk_long, current_in, last_in, running_get, sealed_in, verifies, verified_time, verified_get}
 use Rattle.mu_model_completion.proofs.Receivers.{rcv, view, told_block, told_get}
 use Rattle.mu_model_completion.proofs.Asking.{Asking}
-use Rattle.mu_model_completion.proofs.First.{Good, Row, row_answered, row_pending, row_later, Runs, runs_later, time_node, time_receiver, in_time, row_place}
+use Rattle.mu_model_completion.specs.Turn.{replied_by}
+use Rattle.mu_model_completion.proofs.First.{runs_longer, Good, Row, row_answered, row_pending, row_later, Runs, runs_later, time_node, time_receiver, in_time, row_place}
 use Rattle.mu_model_completion.proofs.Pieces.{filled, put_here, at_next, not_full, full, places, all_joined, lacking_from, one_held}
 
 -- blocks and chunks tile the image
@@ -147,3 +148,84 @@ module _ (fields : FieldsAreRead) (tiles : Tiles) (p : Sending) (meta : Meta) (i
     asked = λ j x w. block_answered b n c total (suc j) x w;
     counts = λ c. refl;
   }
+
+  -- ---- 6 chunks
+
+  -- while chunks are missing it is in the block; then it holds the block
+  abbrev pub Chunked : ℕ → ℕ → ℕ → ℕ → ℕ → Pair → Type 0
+  Chunked b n k zero a x = Runs fields p meta image u blocks good most few (held_of (suc b) n) (Some (last_of b)) a x
+  Chunked b n k (suc rem) a x = InBlock b n k (suc rem) a x
+
+  in_block_longer : (b n k rem a c : ℕ) (x : Pair) → a ≤ c → InBlock b n k rem a x → InBlock b n k rem c x
+  in_block_longer b n k rem a c x le h = record {
+    capacity = h.capacity; active = h.active; images = h.images; offer = h.offer; count = h.count; fresh = h.fresh; heard = h.heard; last = h.last; n_is = h.n_is;
+    lately = (let l = h.lately in omega (arith, l, le));
+  }
+
+  pub chunked_longer : (b n k rem a c : ℕ) (x : Pair) → a ≤ c → Chunked b n k rem a x → Chunked b n k rem c x
+  chunked_longer b n k zero a c x le h = runs_longer fields p meta image u blocks good most few (held_of (suc b) n) (Some (last_of b)) a c x le h
+  chunked_longer b n k (suc rem) a c x le h = in_block_longer b n k (suc rem) a c x le h
+
+  abbrev pub chunk_request : ℕ → ℕ → Request
+  chunk_request b k = OfBlob (ChunkTransfer k (chk b k))
+
+  -- the octets are that chunk's
+  long_is : (b k : ℕ) → length (chk b k) ≡ chunk_length (block_length p.size p.log b) p.chunk k
+  long_is b k = tiles.chunk_long (block_of image p.log b) p.chunk k ∙ ap (λ m. chunk_length m p.chunk k) (tiles.block_long image p.log b ∙ ap (λ m. block_length m p.log b) whole)
+
+  below_places : (b k rem : ℕ) → nat_le (length (got_of b k (suc rem))) k ≡ false
+  below_places b k rem = let h = places (chk b) k 0 (suc rem) in grind (arith, nat_tests, h)
+
+  -- all chunks joined are the block
+  pub block_joined : (b c : ℕ) → chunk_total p b ≡ c → joined (got_of b c 0) ≡ blk b
+  block_joined b c total =
+      let count : chunk_count (length (block_of image p.log b)) p.chunk ≡ c =
+          ap (λ m. chunk_count m p.chunk) (tiles.block_long image p.log b ∙ ap (λ m. block_length m p.log b) whole) ∙ total in
+      all_joined (chk b) c 0
+      ∙ (ap (λ m. concat (map (chk b) (range_with_len 0 m))) (sym count) ∙ tiles.chunks_joined (block_of image p.log b) p.chunk chunk_some)
+
+  module _ (b n c : ℕ) (total : chunk_total p b ≡ suc c) (k : ℕ) (x : Pair) (a : ℕ) where
+    -- not the last one
+    module _ (rem : ℕ) (h : InBlock b n k (suc (suc rem)) a x) where
+      takes_more : Does (asks x.n u (chunk_request b k) x.moment)
+          (running p meta image h.capacity h.active h.images h.offer u 0 0 (held_of b (suc n)) (Some (current_in p meta image h.capacity h.active h.images h.offer u 0 0 b (put (got_of b k (suc (suc rem))) k (chk b k)))) h.last h.count h.fresh x.moment x.moment) []
+      takes_more =
+          subst (λ s. Does (asks s u (chunk_request b k) x.moment)
+              (running p meta image h.capacity h.active h.images h.offer u 0 0 (held_of b (suc n)) (Some (current_in p meta image h.capacity h.active h.images h.offer u 0 0 b (put (got_of b k (suc (suc rem))) k (chk b k)))) h.last h.count h.fresh x.moment x.moment) []) (sym h.n_is)
+              (chunk_more p meta image h.capacity h.active h.images h.offer u 0 0 (held_of b (suc n)) h.last h.count h.fresh h.heard x.moment b (got_of b k (suc (suc rem))) k (chk b k)
+                  (not_full blk b 0 n) (below_places b k (suc rem)) (eq-eqb _ _ (long_is b k)) (at_next (chk b) k 0 (suc rem))
+                  (ap is_full (put_here (chk b) k (suc rem)) ∙ not_full (chk b) (suc k) 0 rem))
+
+      pub one_more : InBlock b n (suc k) (suc rem) 0 (answered_by (view p meta (Chunks b)) u x (asks x.n u (chunk_request b k) x.moment))
+      one_more = record {
+        capacity = h.capacity; active = h.active; images = h.images; offer = h.offer; count = h.count; fresh = h.fresh; heard = x.moment; last = h.last; lately = omega arith;
+        n_is = takes_more.next_is ∙ ap (λ got. running p meta image h.capacity h.active h.images h.offer u 0 0 (held_of b (suc n)) (Some (current_in p meta image h.capacity h.active h.images h.offer u 0 0 b got)) h.last h.count h.fresh x.moment x.moment) (put_here (chk b) k (suc rem));
+      }
+
+    -- the last one
+    module _ (last_one : k ≡ c) (h : InBlock b n k 1 a x) where
+      takes_last : Does (asks x.n u (chunk_request b k) x.moment)
+          (running p meta image h.capacity h.active h.images h.offer u 0 0 (put (held_of b (suc n)) b (joined (put (got_of b k 1) k (chk b k)))) None (Some (last_in p meta image h.capacity h.active h.images h.offer u 0 0 b)) h.count h.fresh x.moment x.moment) []
+      takes_last =
+          subst (λ s. Does (asks s u (chunk_request b k) x.moment)
+              (running p meta image h.capacity h.active h.images h.offer u 0 0 (put (held_of b (suc n)) b (joined (put (got_of b k 1) k (chk b k)))) None (Some (last_in p meta image h.capacity h.active h.images h.offer u 0 0 b)) h.count h.fresh x.moment x.moment) []) (sym h.n_is)
+              (chunk_last p meta image h.capacity h.active h.images h.offer u 0 0 (held_of b (suc n)) h.last h.count h.fresh h.heard x.moment b (got_of b k 1) k (chk b k)
+                  good.no_pull (not_full blk b 0 n) (below_places b k 0) (eq-eqb _ _ (long_is b k)) (at_next (chk b) k 0 0)
+                  (ap is_full (put_here (chk b) k 0) ∙ full (chk b) (suc k) 0))
+
+      now_held : put (held_of b (suc n)) b (joined (put (got_of b k 1) k (chk b k))) ≡ held_of (suc b) n
+      now_held =
+          ap (λ octets. put (held_of b (suc n)) b octets) (ap joined (put_here (chk b) k 0) ∙ block_joined b (suc k) (total ∙ ap suc (sym last_one))) ∙ put_here blk b n
+
+      pub the_last : Runs fields p meta image u blocks good most few (held_of (suc b) n) (Some (last_of b)) 0 (answered_by (view p meta (Chunks b)) u x (asks x.n u (chunk_request b k) x.moment))
+      the_last = record {
+        capacity = h.capacity; active = h.active; images = h.images; offer = h.offer; count = h.count; fresh = h.fresh; heard = x.moment; lately = omega arith;
+        n_is = takes_last.next_is ∙ ap (λ held. running p meta image h.capacity h.active h.images h.offer u 0 0 held None (Some (last_of b)) h.count h.fresh x.moment x.moment) now_held;
+      }
+
+    -- a chunk, and nothing is answered
+    pub chunk_taken : (rem : ℕ) → k + suc rem ≡ suc c → Chunked b n k (suc rem) a x
+        → Chunked b n (suc k) rem 0 (answered_by (view p meta (Chunks b)) u x (asks x.n u (chunk_request b k) x.moment))
+        × ((answered_by (view p meta (Chunks b)) u x (asks x.n u (chunk_request b k) x.moment)).r ≡ x.r)
+    chunk_taken zero sum h = (the_last (omega (arith, sum)) h, ap (λ replies. tells (view p meta (Chunks b)) u (map (replied_by x.config.address) replies) x.r) (takes_last (omega (arith, sum)) h).says)
+    chunk_taken (suc rem) sum h = (one_more rem h, ap (λ replies. tells (view p meta (Chunks b)) u (map (replied_by x.config.address) replies) x.r) (takes_more rem h).says)
