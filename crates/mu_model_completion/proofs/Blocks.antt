@@ -1,5 +1,5 @@
 -- A block: begun, its chunks, and what is asked after them.
-use Rattle.std.proofs.Common.{◌≡◌, ◌⊎◌, inl, inr, ◌<◌, ◌≤◌, ◌+◌, ◌-◌, ◌*◌, ◌^◌, ◌==◌, ℕ, zero, suc, List, [], ◌∷◌, ◌++◌, refl, sym, ap, ◌∙◌, subst, true, false, Bool, Option, Some, None, arith, map, max, min, length, take, drop}
+use Rattle.std.proofs.Common.{◌≡◌, ◌⊎◌, inl, inr, ◌<◌, ◌≤◌, ◌+◌, ◌-◌, ◌*◌, ◌^◌, ◌==◌, ℕ, zero, suc, List, [], ◌∷◌, ◌++◌, refl, sym, ap, ◌∙◌, subst, true, false, Bool, Option, Some, None, arith, map, max, min, length, take, drop, set}
 use Rattle.std.specs.Prelude.{◌&&◌, ◌||◌, not, if◌then◌else◌, nat_lt, nat_le, replicate}
 use Rattle.std.specs.List.{list_any, flat_map, range_with_len, AllByRecursion, concat}
 use Rattle.std.proofs.lemmas.Bool.{eq-eqb, eqb-true}
@@ -229,3 +229,127 @@ module _ (fields : FieldsAreRead) (tiles : Tiles) (p : Sending) (meta : Meta) (i
         × ((answered_by (view p meta (Chunks b)) u x (asks x.n u (chunk_request b k) x.moment)).r ≡ x.r)
     chunk_taken zero sum h = (the_last (omega (arith, sum)) h, ap (λ replies. tells (view p meta (Chunks b)) u (map (replied_by x.config.address) replies) x.r) (takes_last (omega (arith, sum)) h).says)
     chunk_taken (suc rem) sum h = (one_more rem h, ap (λ replies. tells (view p meta (Chunks b)) u (map (replied_by x.config.address) replies) x.r) (takes_more rem h).says)
+
+  -- ---- when all blocks are held
+
+  pub image_joined : (b : ℕ) → b ≡ suc blocks → joined (held_of b 0) ≡ image
+  image_joined b e =
+      let count : block_count (length image) p.log ≡ b = ap (λ m. block_count m p.log) whole ∙ (good.total ∙ sym e) in
+      all_joined blk b 0 ∙ (ap (λ m. concat (map blk (range_with_len 0 m))) (sym count) ∙ tiles.blocks_joined image p.log)
+
+  -- verified
+  pub record IsVerified (held : Slots) (last : Option LastBlock) (x : Pair) : Type 0 where
+    pub capacity : ℕ
+    pub active : Image
+    pub images : List Image
+    pub offer : Offer p meta image capacity active
+    pub count : ℕ
+    pub fresh : ℕ
+    pub heard : ℕ
+    pub n_is : x.n ≡ sealed_in p meta image capacity active images offer u 0 0 Verified held last count fresh heard x.moment
+
+  -- all is there: verified, or at first not yet
+  abbrev pub Sealing : Slots → Option LastBlock → ℕ → Pair → Type 0
+  Sealing held last zero x = ((a : ℕ) × Runs fields p meta image u blocks good most few held last a x) ⊎ IsVerified held last x
+  Sealing held last (suc j) x = IsVerified held last x
+
+  module _ (v : Client) (x : Pair) (held : Slots) (last : Option LastBlock) where
+    verified_passes : (h : IsVerified held last x) → Does (passes x.n (x.moment + 100)) (sealed_in p meta image h.capacity h.active h.images h.offer u 0 0 Verified held last h.count h.fresh h.heard (x.moment + 100)) []
+    verified_passes h =
+        subst (λ s. Does (passes s (x.moment + 100)) (sealed_in p meta image h.capacity h.active h.images h.offer u 0 0 Verified held last h.count h.fresh h.heard (x.moment + 100)) []) (sym h.n_is)
+            (verified_time p meta image h.capacity h.active h.images h.offer u 0 0 held last h.count h.fresh h.heard x.moment (x.moment + 100) (omega arith))
+
+    pub verified_later : IsVerified held last x → IsVerified held last (pair_time v u x) × ((pair_time v u x).r ≡ x.r)
+    verified_later h = (record {
+      capacity = h.capacity; active = h.active; images = h.images; offer = h.offer; count = h.count; fresh = h.fresh; heard = h.heard; n_is = time_node v u x _ (verified_passes h);
+    }, time_receiver v u x _ (verified_passes h))
+
+    becomes_verified : (a : ℕ) → is_full held ≡ true → joined held ≡ image → (h : Runs fields p meta image u blocks good most few held last a x)
+        → Does (passes x.n (x.moment + 100)) (sealed_in p meta image h.capacity h.active h.images h.offer u 0 0 Verified held last (h.count + 1) (fresh_after false h.fresh) h.heard (x.moment + 100)) []
+    becomes_verified a all is h =
+        subst (λ s. Does (passes s (x.moment + 100)) (sealed_in p meta image h.capacity h.active h.images h.offer u 0 0 Verified held last (h.count + 1) (fresh_after false h.fresh) h.heard (x.moment + 100)) []) (sym h.n_is)
+            (verifies p meta image h.capacity h.active h.images h.offer u 0 0 held last h.count h.fresh h.heard x.moment (x.moment + 100) all (ap (λ octets. is_fit octets meta) is ∙ h.offer.fit) (omega arith))
+
+    seals : (a : ℕ) → is_full held ≡ true → joined held ≡ image → Runs fields p meta image u blocks good most few held last a x → IsVerified held last (pair_time v u x) × ((pair_time v u x).r ≡ x.r)
+    seals a all is h = (record {
+      capacity = h.capacity; active = h.active; images = h.images; offer = h.offer; count = h.count + 1; fresh = fresh_after false h.fresh; heard = h.heard; n_is = time_node v u x _ (becomes_verified a all is h);
+    }, time_receiver v u x _ (becomes_verified a all is h))
+
+    pub sealing_later : (j : ℕ) → is_full held ≡ true → joined held ≡ image → Sealing held last j x → IsVerified held last (pair_time v u x) × ((pair_time v u x).r ≡ x.r)
+    sealing_later zero all is (inl h) = seals h.0 all is h.1
+    sealing_later zero all is (inr h) = verified_later h
+    sealing_later (suc j) all is h = verified_later h
+
+  -- ---- 7 get
+
+  -- after block b, with n blocks missing
+  abbrev pub After : (base b n j : ℕ) → Pair → Type 0
+  After base b zero j x = Sealing (held_of (suc b) 0) (Some (last_of b)) j x
+  After base b (suc n) j x = Runs fields p meta image u blocks good most few (held_of (suc b) (suc n)) (Some (last_of b)) (base + j) x
+
+  abbrev pub GetW : ℕ → ℕ → ℕ → ℕ → Pair → Type 0
+  GetW b n c j x = Row 2 (lacking_from b (suc n)) (every_number (suc c)) true x × After most b n j x
+
+  abbrev pub GetD : ℕ → ℕ → ℕ → ℕ → Pair → Type 0
+  GetD b n c j x = Row 2 (lacking_from (suc b) n) (no_number (suc c)) false x × After 0 b n j x
+
+  after_later : (v : Client) (x : Pair) (base b n j : ℕ) → b + suc n ≡ suc blocks → base + j < 99 → After base b n j x → After base b n (suc j) (pair_time v u x) × ((pair_time v u x).r ≡ x.r)
+  after_later v x base b zero j sum lt h = sealing_later v x (held_of (suc b) 0) (Some (last_of b)) j (full blk (suc b) 0) (image_joined (suc b) (omega (arith, sum))) h
+  after_later v x base b (suc n) j sum lt h =
+      let t = runs_later fields p meta image u blocks good most few v x (held_of (suc b) (suc n)) (Some (last_of b)) (base + j) (not_full blk (suc b) 0 n) lt h in
+      let e : suc (base + j) ≡ base + suc j = omega arith in
+      (subst (λ m. Runs fields p meta image u blocks good most few (held_of (suc b) (suc n)) (Some (last_of b)) m (pair_time v u x)) e t.0, t.1)
+
+  abbrev pub get_reply : ℕ → Reply
+  get_reply b = ByBlob (BlockStatus 0 b p.chunk Nothing)
+
+  module _ (b c : ℕ) (total : chunk_total p b ≡ suc c) (x : Pair) where
+    -- while blocks are missing
+    module _ (n j : ℕ) (row : Row 2 (lacking_from b (suc (suc n))) (every_number (suc c)) true x) (a : ℕ) (h : Runs fields p meta image u blocks good most few (held_of (suc b) (suc n)) (Some (last_of b)) a x) where
+      gets : Does (asks x.n u (OfBlob BlockGet) x.moment) (running p meta image h.capacity h.active h.images h.offer u 0 0 (held_of (suc b) (suc n)) None (Some (last_of b)) h.count h.fresh x.moment x.moment) ((u, get_reply b) ∷ [])
+      gets =
+          subst (λ s. Does (asks s u (OfBlob BlockGet) x.moment) (running p meta image h.capacity h.active h.images h.offer u 0 0 (held_of (suc b) (suc n)) None (Some (last_of b)) h.count h.fresh x.moment x.moment) ((u, get_reply b) ∷ [])) (sym h.n_is)
+              (running_get p meta image h.capacity h.active h.images h.offer u 0 0 (held_of (suc b) (suc n)) b h.count h.fresh h.heard x.moment (not_full blk (suc b) 0 n))
+
+      get_more : GetD b (suc n) c j (answered_by (view p meta (Get b)) u x (asks x.n u (OfBlob BlockGet) x.moment))
+      get_more = (
+        subst (λ bs. Row 2 bs (no_number (suc c)) false (answered_by (view p meta (Get b)) u x (asks x.n u (OfBlob BlockGet) x.moment))) (one_held b (suc n))
+            (row_answered (view p meta (Get b)) u x (OfBlob BlockGet) _ (get_reply b) 2 2 (lacking_from b (suc (suc n))) (every_number (suc c)) (set (lacking_from b (suc (suc n))) b false) (no_number (suc c)) gets row
+                (told_get p meta x.config.address b c (lacking_from b (suc (suc n))) total)),
+        record {
+          capacity = h.capacity; active = h.active; images = h.images; offer = h.offer; count = h.count; fresh = h.fresh; heard = x.moment; lately = omega arith; n_is = gets.next_is;
+        })
+
+    -- after the last block
+    module _ (j : ℕ) (row : Row 2 (lacking_from b 1) (every_number (suc c)) true x) (h : IsVerified (held_of (suc b) 0) (Some (last_of b)) x) where
+      gets_last : Does (asks x.n u (OfBlob BlockGet) x.moment) (sealed_in p meta image h.capacity h.active h.images h.offer u 0 0 Verified (held_of (suc b) 0) (Some (last_of b)) h.count h.fresh h.heard x.moment) ((u, get_reply b) ∷ [])
+      gets_last =
+          subst (λ s. Does (asks s u (OfBlob BlockGet) x.moment) (sealed_in p meta image h.capacity h.active h.images h.offer u 0 0 Verified (held_of (suc b) 0) (Some (last_of b)) h.count h.fresh h.heard x.moment) ((u, get_reply b) ∷ [])) (sym h.n_is)
+              (verified_get p meta image h.capacity h.active h.images h.offer u 0 0 (held_of (suc b) 0) b h.count h.fresh h.heard x.moment)
+
+      get_last : GetD b 0 c (suc j) (answered_by (view p meta (Get b)) u x (asks x.n u (OfBlob BlockGet) x.moment))
+      get_last = (
+        subst (λ bs. Row 2 bs (no_number (suc c)) false (answered_by (view p meta (Get b)) u x (asks x.n u (OfBlob BlockGet) x.moment))) (one_held b 0)
+            (row_answered (view p meta (Get b)) u x (OfBlob BlockGet) _ (get_reply b) 2 2 (lacking_from b 1) (every_number (suc c)) (set (lacking_from b 1) b false) (no_number (suc c)) gets_last row
+                (told_get p meta x.config.address b c (lacking_from b 1) total)),
+        record {
+          capacity = h.capacity; active = h.active; images = h.images; offer = h.offer; count = h.count; fresh = h.fresh; heard = h.heard; n_is = gets_last.next_is;
+        })
+
+    pub get_answered : (n j : ℕ) → GetW b n c (suc j) x → GetD b n c (suc j) (answered_by (view p meta (Get b)) u x (asks x.n u (OfBlob BlockGet) x.moment))
+    get_answered zero j w = get_last j w.0 w.1
+    get_answered (suc n) j w = get_more n (suc j) w.0 (most + suc j) w.1
+
+  pub get_asking : (b n c : ℕ) → chunk_total p b ≡ suc c → b + suc n ≡ suc blocks → Asking p meta u (Get b) (OfBlob BlockGet) (GetW b n c) (GetD b n c) most
+  get_asking b n c total sum = record {
+    waits = λ j x w. row_pending fields p meta image u blocks good most few 2 (lacking_from b (suc n)) (every_number (suc c)) true x w.0;
+    is_done = λ j x w. row_pending fields p meta image u blocks good most few 2 (lacking_from (suc b) n) (no_number (suc c)) false x w.0;
+    place = λ j x w. row_place 2 (lacking_from b (suc n)) (every_number (suc c)) true x w.0;
+    message = λ j x w. refl;
+    time_waits = λ j x lt w. (let t = after_later (view p meta (Get b)) x most b n j sum (omega (arith, lt, few)) w.1 in
+      ((row_later fields p meta image u blocks good most few (view p meta (Get b)) x 2 (lacking_from b (suc n)) (every_number (suc c)) true t.1 w.0, t.0), t.1));
+    time_done = λ j x lt w. (let t = after_later (view p meta (Get b)) x 0 b n j sum (omega (arith, lt, few)) w.1 in
+      ((row_later fields p meta image u blocks good most few (view p meta (Get b)) x 2 (lacking_from (suc b) n) (no_number (suc c)) false t.1 w.0, t.0), t.1));
+    asked = λ j x w. get_answered b c total x n j w;
+    counts = λ c. refl;
+  }
