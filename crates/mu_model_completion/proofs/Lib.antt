@@ -8,3 +8,4 @@ pub mod Asking
 pub mod First
 pub mod Pieces
 pub mod Blocks
+pub mod Last
