@@ -9,3 +9,4 @@ pub mod First
 pub mod Pieces
 pub mod Blocks
 pub mod Last
+pub mod Sixteens
