@@ -168,3 +168,22 @@ module _ (laws : KeepsPlan) (fields : FieldsAreRead) (tiles : Tiles) (p : Sendin
               (subst (λ items. Station laws p meta config image (At (Chunks b)) (drop 16 (chunks_from k (suc rem))) (map (turn_in laws p meta config image (Chunks b) items) ps) (turn xs)) now next) in
       let done = finish_chunks m (k + suc j) (suc rem - suc j) (map (turned_pair k (suc j)) ps) (turn xs) here (subst (AllByRecursion (Reaches to)) (sym t.1) reached) (omega (arith, sum)) t.0 (omega (arith, le)) in
       by_turn m (ChunksSent (configs ps)) xs (record { turns = done.turns; few = done.few; then_is = (let f = done.then_is in record { qs = f.qs; station = f.station; all = f.all; same = f.same ∙ t.1 }) })
+
+  -- the whole step, from the turn in which it begins
+  pub begin_chunks : (m : ℕ) (ps : List Pair) (ys : List Member) (list : List Item) → list ≡ chunks_from 0 (suc c)
+      → Station laws p meta config image (At (Chunks b)) (drop 16 list) (map (turn_in laws p meta config image (Chunks b) (take 16 list)) ps) ys
+      → AllByRecursion (Reaches to) (configs ps) → AllByRecursion (Chunking 0 (suc c)) ps → suc c ≤ 16 * suc m → Within m (ChunksSent (configs ps)) ys
+  begin_chunks m ps ys list is s reached h le =
+      let j : ℕ = min 15 c in
+      let count : min 16 (suc c) ≡ suc j = omega arith in
+      let now : take 16 (chunks_from 0 (suc c)) ≡ chunks_from 0 (suc j) = take_range (λ i. Sends to b i) 16 (suc c) 0 ∙ ap (λ i. chunks_from 0 i) count in
+      let later : drop 16 (chunks_from 0 (suc c)) ≡ chunks_from (0 + suc j) (suc c - suc j) =
+          drop_range (λ i. Sends to b i) 16 (suc c) 0 ∙ ap (λ i. chunks_from (0 + i) (suc c - i)) count in
+      let t = all_turn j 0 c ps reached (omega arith) (omega arith) h in
+      let same : Station laws p meta config image (At (Chunks b)) (drop 16 (chunks_from 0 (suc c))) (map (turn_in laws p meta config image (Chunks b) (take 16 (chunks_from 0 (suc c)))) ps) ys =
+          subst (λ items. Station laws p meta config image (At (Chunks b)) (drop 16 items) (map (turn_in laws p meta config image (Chunks b) (take 16 items)) ps) ys) is s in
+      let here : Station laws p meta config image (At (Chunks b)) (chunks_from (0 + suc j) (suc c - suc j)) (map (turned_pair 0 (suc j)) ps) ys =
+          subst (λ items. Station laws p meta config image (At (Chunks b)) items (map (turned_pair 0 (suc j)) ps) ys) later
+              (subst (λ items. Station laws p meta config image (At (Chunks b)) (drop 16 (chunks_from 0 (suc c))) (map (turn_in laws p meta config image (Chunks b) items) ps) ys) now same) in
+      let done = finish_chunks m (0 + suc j) (suc c - suc j) (map (turned_pair 0 (suc j)) ps) ys here (subst (AllByRecursion (Reaches to)) (sym t.1) reached) (omega arith) t.0 (omega (arith, le)) in
+      record { turns = done.turns; few = done.few; then_is = (let f = done.then_is in record { qs = f.qs; station = f.station; all = f.all; same = f.same ∙ t.1 }) }
