@@ -230,12 +230,12 @@ module _ (laws : KeepsPlan) (p : Sending) (meta : Meta) (config : NodeConfig) (i
     -- ---- until all have answered
 
     pub record Finished (ps : List Pair) (xs : List Member) : Type 0 where
-      qs : List Pair
-      turns : ℕ
-      few : turns ≤ most
-      station : Station laws p meta config image (At step) [] qs xs
-      all : AllByRecursion (D turns) qs
-      same : configs qs ≡ configs ps
+      pub qs : List Pair
+      pub turns : ℕ
+      pub few : turns ≤ most
+      pub station : Station laws p meta config image (At step) [] qs xs
+      pub all : AllByRecursion (D turns) qs
+      pub same : configs qs ≡ configs ps
 
     nobody_waits : (j : ℕ) (ps : List Pair) → AllByRecursion (Is j) ps → says ps ≡ [] → AllByRecursion (D j) ps
     nobody_waits j [] h e = tt

@@ -10,3 +10,4 @@ pub mod Pieces
 pub mod Blocks
 pub mod Last
 pub mod Sixteens
+pub mod Course

@@ -143,10 +143,10 @@ module _ (laws : KeepsPlan) (fields : FieldsAreRead) (tiles : Tiles) (p : Sendin
   -- ---- until all chunks are sent
 
   pub record ChunksSent (cs : List NodeConfig) (xs : List Member) : Type 0 where
-    qs : List Pair
-    station : Station laws p meta config image (At (Chunks b)) [] qs xs
-    all : AllByRecursion (Chunking (suc c) 0) qs
-    same : configs qs ≡ cs
+    pub qs : List Pair
+    pub station : Station laws p meta config image (At (Chunks b)) [] qs xs
+    pub all : AllByRecursion (Chunking (suc c) 0) qs
+    pub same : configs qs ≡ cs
 
   pub finish_chunks : (m k rem : ℕ) (ps : List Pair) (xs : List Member) → Station laws p meta config image (At (Chunks b)) (chunks_from k rem) ps xs
       → AllByRecursion (Reaches to) (configs ps) → k + rem ≡ suc c → AllByRecursion (Chunking k rem) ps → rem ≤ 16 * m → Within m (ChunksSent (configs ps)) xs

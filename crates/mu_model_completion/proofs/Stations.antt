@@ -56,11 +56,11 @@ module _ (laws : KeepsPlan) (p : Sending) (meta : Meta) (config : NodeConfig) (i
       record { sending = p; purpose = Update meta true; receivers = rs; place = place; queue = queue; began = began; moment = moment }
 
   pub record Station (place : Place) (queue : List Item) (ps : List Pair) (xs : List Member) : Type 0 where
-    now : ℕ
-    began : ℕ
-    moment : ℕ
-    early : moment ≤ now
-    holds : Holds config image now (client_at place queue began moment (map receiver_in ps)) ps xs
+    pub now : ℕ
+    pub began : ℕ
+    pub moment : ℕ
+    pub early : moment ≤ now
+    pub holds : Holds config image now (client_at place queue began moment (map receiver_in ps)) ps xs
 
   abbrev pub sent_all : List Item → List Sent
   sent_all items = map (asked_by config.address) (map (sent_for p image) items)
