@@ -41,11 +41,11 @@ module _ (laws : KeepsPlan) (fields : FieldsAreRead) (tiles : Tiles) (p : Sendin
   abbrev pub Answered : (ℕ → Pair → Type 0) → Pair → Type 0
   Answered D x = (j : ℕ) × (j ≤ q) × D j x
 
-  configs_length : (ps : List Pair) → length (configs ps) ≡ length ps
+  pub configs_length : (ps : List Pair) → length (configs ps) ≡ length ps
   configs_length [] = refl
   configs_length (x ∷ ps) = ap suc (configs_length ps)
 
-  all_begin : (P Q : Pair → Type 0) (step : Step) → ((x : Pair) → P x → Q (begins laws p meta config image step x)) → (ps : List Pair) → AllByRecursion P ps
+  pub all_begin : (P Q : Pair → Type 0) (step : Step) → ((x : Pair) → P x → Q (begins laws p meta config image step x)) → (ps : List Pair) → AllByRecursion P ps
       → AllByRecursion Q (map (begins laws p meta config image step) ps)
   all_begin P Q step f [] h = tt
   all_begin P Q step f (x ∷ ps) h = (f x h.0, all_begin P Q step f ps h.1)
@@ -60,7 +60,7 @@ module _ (laws : KeepsPlan) (fields : FieldsAreRead) (tiles : Tiles) (p : Sendin
           ≡ d.sends (d.in_step (client_at laws p meta config image place [] began moment (map receiver_in ps)) step) image (d.first_of (client_at laws p meta config image place [] began moment (map receiver_in ps)) step)
 
   -- A STEP in which each is asked once
-  go_step : (place : Place) (P : Pair → Type 0) (step : Step) (request : Request) (W D : ℕ → Pair → Type 0) → Asking p meta u step request W D q
+  pub go_step : (place : Place) (P : Pair → Type 0) (step : Step) (request : Request) (W D : ℕ → Pair → Type 0) → Asking p meta u step request W D q
       → ((rs : List Receiver) → l.first_list p (Update meta true) rs step ≡ l.messages (l.step_message p (Update meta true) step) rs)
       → ((x : Pair) → P x → W 0 (begins laws p meta config image step x))
       → ((ps : List Pair) → AllByRecursion P ps → 1 ≤ length ps → Leads place ps step)
@@ -75,11 +75,11 @@ module _ (laws : KeepsPlan) (fields : FieldsAreRead) (tiles : Tiles) (p : Sendin
 
   -- ---- what receivers are, all together
 
-  nobody_pending : (P : Pair → Type 0) → ((x : Pair) → P x → x.r.pending ≡ false) → (ps : List Pair) → AllByRecursion P ps → list_any is_pending (map receiver_in ps) ≡ false
+  pub nobody_pending : (P : Pair → Type 0) → ((x : Pair) → P x → x.r.pending ≡ false) → (ps : List Pair) → AllByRecursion P ps → list_any is_pending (map receiver_in ps) ≡ false
   nobody_pending P f [] h = refl
   nobody_pending P f (x ∷ ps) h = ap (λ b. b || list_any is_pending (map receiver_in ps)) (f x h.0) ∙ nobody_pending P f ps h.1
 
-  some_active : (P : Pair → Type 0) → ((x : Pair) → P x → is_active x.r ≡ true) → (ps : List Pair) → AllByRecursion P ps → 1 ≤ length ps → list_any is_active (map receiver_in ps) ≡ true
+  pub some_active : (P : Pair → Type 0) → ((x : Pair) → P x → is_active x.r ≡ true) → (ps : List Pair) → AllByRecursion P ps → 1 ≤ length ps → list_any is_active (map receiver_in ps) ≡ true
   some_active P f [] h le = absurd (omega (arith, le))
   some_active P f (x ∷ ps) h le = ap (λ b. b || list_any is_active (map receiver_in ps)) (f x h.0)
 
@@ -87,15 +87,19 @@ module _ (laws : KeepsPlan) (fields : FieldsAreRead) (tiles : Tiles) (p : Sendin
   abbrev RowIs : (ℕ → Pair → Type 0) → Bool → Type 0
   RowIs D pending = (x : Pair) → Answered D x → (x.r.pending ≡ pending) × (is_active x.r ≡ true)
 
-  row_is : (phase : ℕ) (bs chunks : List Bool) (pending : Bool) (x : Pair) → Row phase bs chunks pending x → (x.r.pending ≡ pending) × (is_active x.r ≡ true)
+  pub row_is : (phase : ℕ) (bs chunks : List Bool) (pending : Bool) (x : Pair) → Row phase bs chunks pending x → (x.r.pending ≡ pending) × (is_active x.r ≡ true)
   row_is phase bs chunks pending x h = (ap (λ (r : Receiver). r.pending) h.r_is, ap is_active h.r_is)
 
-  row_begun : (step : Step) (phase : ℕ) (bs chunks : List Bool) (x : Pair) → Row phase bs chunks false x
+  pub row_begun_by : (pending : Bool) (step : Step) (phase : ℕ) (bs chunks : List Bool) (x : Pair) → Row phase bs chunks pending x
+      → is_in step (rcv x.config.address phase bs chunks pending) ≡ true → Row phase bs chunks true (begins laws p meta config image step x)
+  row_begun_by pending step phase bs chunks x h e = record { r_is = ap (d.begun step) h.r_is ∙ ap (d.begun_if (rcv x.config.address phase bs chunks pending)) e }
+
+  pub row_begun : (step : Step) (phase : ℕ) (bs chunks : List Bool) (x : Pair) → Row phase bs chunks false x
       → is_in step (rcv x.config.address phase bs chunks false) ≡ true → Row phase bs chunks true (begins laws p meta config image step x)
-  row_begun step phase bs chunks x h e = record { r_is = ap (d.begun step) h.r_is ∙ ap (d.begun_if (rcv x.config.address phase bs chunks false)) e }
+  row_begun step phase bs chunks x h e = row_begun_by false step phase bs chunks x h e
 
   -- a step that is done leads to the next one
-  next_leads : (last next : Step) (P : Pair → Type 0) → ((x : Pair) → P x → (x.r.pending ≡ false) × (is_active x.r ≡ true))
+  pub next_leads : (last next : Step) (P : Pair → Type 0) → ((x : Pair) → P x → (x.r.pending ≡ false) × (is_active x.r ≡ true))
       → ((c : Client) → d.is_done c last ≡ not (list_any is_pending c.receivers))
       → ((rs : List Receiver) → list_any (is_begun_for next) rs ≡ list_any is_active rs)
       → ((ps : List Pair) → AllByRecursion P ps → 1 ≤ length ps → d.after p (Update meta true) (map receiver_in ps) last ≡ Go next)
@@ -118,7 +122,7 @@ module _ (laws : KeepsPlan) (fields : FieldsAreRead) (tiles : Tiles) (p : Sendin
   taken_at : (step : Step) (a : ℕ) (x : Pair) → Taken fields p meta image u blocks good q few a x → Taken fields p meta image u blocks good q few a (begins laws p meta config image step x)
   taken_at step a x h = record { capacity = h.capacity; active = h.active; images = h.images; offer = h.offer; count = h.count; fresh = h.fresh; heard = h.heard; lately = h.lately; n_is = h.n_is }
 
-  abbrev CheckDone : Pair → Type 0
+  abbrev pub CheckDone : Pair → Type 0
   CheckDone x = Answered (CheckD fields p meta image u blocks good q few) x
 
   pub checked : (xs : List Member) → Reached (Before Check) First xs → Within q (Reached (At Check) CheckDone) xs
@@ -146,7 +150,7 @@ module _ (laws : KeepsPlan) (fields : FieldsAreRead) (tiles : Tiles) (p : Sendin
       (λ x h. (row_begun Information 2 [] [] x h.2.0 refl, taken_longer fields p meta image u blocks good q few h.0 (q + 0) (begins laws p meta config image Information x) (let le = h.1 in omega (arith, le)) (taken_at Information h.0 x h.2.1)))
       (next_leads Start Information StartDone (λ x k. row_is 2 [] [] false x k.2.0) (λ c. refl) (λ rs. refl) (λ ps h le. refl)) xs r
 
-  abbrev TransferDone : Pair → Type 0
+  abbrev pub TransferDone : Pair → Type 0
   TransferDone x = Answered (TransferD fields p meta image u blocks good q few) x
 
   transferred : (xs : List Member) → Reached (At Information) InformationDone xs → Within q (Reached (At Transfer) TransferDone) xs

@@ -11,3 +11,4 @@ pub mod Blocks
 pub mod Last
 pub mod Sixteens
 pub mod Course
+pub mod Middle
