@@ -64,10 +64,10 @@ module _ (laws : KeepsPlan) (fields : FieldsAreRead) (tiles : Tiles) (p : Sendin
     runs : Runs fields p meta image u blocks good q few (held b n) before q x
 
   pub record AllHeld (x : Pair) : Type 0 where
-    c : ℕ
-    row : Row 2 (lacking_from (suc blocks) 0) (no_number (suc c)) false x
-    j : ℕ
-    sealing : Sealing fields tiles p meta image u blocks good q few whole chunk_some (held (suc blocks) 0) (Some (last blocks)) j x
+    pub c : ℕ
+    pub row : Row 2 (lacking_from (suc blocks) 0) (no_number (suc c)) false x
+    pub j : ℕ
+    pub sealing : Sealing fields tiles p meta image u blocks good q few whole chunk_some (held (suc blocks) 0) (Some (last blocks)) j x
 
   between_is : (b n : ℕ) (x : Pair) → Between b n x → (x.r.pending ≡ false) × (is_active x.r ≡ true)
   between_is b n x h = (ap (λ (r : Receiver). r.pending) h.row.r_is, ap is_active h.row.r_is)
@@ -150,3 +150,130 @@ module _ (laws : KeepsPlan) (fields : FieldsAreRead) (tiles : Tiles) (p : Sendin
         (BlockW fields tiles p meta image u blocks good q few whole chunk_some b n) BD (block_asking fields tiles p meta image u blocks good q few whole chunk_some b n c total) (λ rs. refl) block_begins
         (next_leads laws fields tiles p meta config image blocks good whole chunk_some cs apart some q few fits q_some s (Block b) (Between b (suc n)) (between_is b (suc n)) (counts_done s e) (λ rs. refl)
             (λ ps h le. after_is s e (map receiver_in ps) (no_chunks (Between b (suc n)) (λ x w. no_chunk x (lacking_from b (suc n)) w.chunks w.none w.row) ps h) ∙ next_is b n sum ps h le)) xs r
+
+    -- ---- its chunks
+
+    abbrev IsChunking : ℕ → ℕ → Pair → Type 0
+    IsChunking k rem x = Chunking laws fields tiles p meta config image blocks good q few whole chunk_some to b n c total k rem x
+
+    in_block_at : (step : Step) (a : ℕ) (x : Pair) → InBlock fields tiles p meta image u blocks good q few whole chunk_some b n 0 (suc c) a x
+        → InBlock fields tiles p meta image u blocks good q few whole chunk_some b n 0 (suc c) a (begins laws p meta config image step x)
+    in_block_at step a x h = record { capacity = h.capacity; active = h.active; images = h.images; offer = h.offer; count = h.count; fresh = h.fresh; heard = h.heard; last = h.last; lately = h.lately; n_is = h.n_is }
+
+    chunks_begin : (x : Pair) → Done BD x → IsChunking 0 (suc c) (begins laws p meta config image (Chunks b) x)
+    chunks_begin x h = (
+      row_begun laws fields tiles p meta config image blocks good whole chunk_some cs apart some q few fits q_some (Chunks b) 2 (lacking_from b (suc n)) (every_number (suc c)) x h.2.0 refl,
+      chunked_longer fields tiles p meta image u blocks good q few whole chunk_some b n 0 (suc c) h.0 q (begins laws p meta config image (Chunks b) x) h.1 (in_block_at (Chunks b) h.0 x h.2.1))
+
+    some_chunks : (ps : List Pair) → AllByRecursion (Done BD) ps → 1 ≤ length ps → list_any misses_chunks (map receiver_in ps) ≡ true
+    some_chunks [] h le = absurd (omega (arith, le))
+    some_chunks (x ∷ ps) h le = ap (λ z. z || list_any misses_chunks (map receiver_in ps)) (ap misses_chunks h.0.2.0.r_is)
+
+    to_chunks : (ps : List Pair) → AllByRecursion (Done BD) ps → 1 ≤ length ps → d.after p (Update meta true) (map receiver_in ps) (Block b) ≡ Go (Chunks b)
+    to_chunks ps h le =
+        ap (λ z. if z then Go (d.chunk_step p b) else d.next_block p (Update meta true) (map receiver_in ps)) (some_chunks ps h le)
+        ∙ ap (λ z. Go (if z then Chunks b else Pull b)) good.push
+
+    begun_configs : (step : Step) (ps : List Pair) → configs (map (begins laws p meta config image step) ps) ≡ configs ps
+    begun_configs step [] = refl
+    begun_configs step (x ∷ ps) = ap (λ zs. x.config ∷ zs) (begun_configs step ps)
+
+    only_rows : (ps : List Pair) → AllByRecursion (IsChunking 0 (suc c)) ps → AllByRecursion (Row 2 (lacking_from b (suc n)) (every_number (suc c)) true) ps
+    only_rows [] h = tt
+    only_rows (x ∷ ps) h = (h.0.0, only_rows ps h.1)
+
+    chunked : (xs : List Member) → At_ (At (Block b)) (Done BD) xs → Within (suc mc) (At_ (At (Chunks b)) (IsChunking (suc c) 0)) xs
+    chunked xs r =
+        let bs : List Pair = map (begins laws p meta config image (Chunks b)) r.qs in
+        let long = configs_length laws fields tiles p meta config image blocks good whole chunk_some cs apart some q few fits q_some r.qs in
+        let counted : length (configs r.qs) ≡ length cs = ap (length {A = NodeConfig}) r.same in
+        let leads = next_leads laws fields tiles p meta config image blocks good whole chunk_some cs apart some q few fits q_some (Block b) (Chunks b) (Done BD)
+            (λ x k. row_is laws fields tiles p meta config image blocks good whole chunk_some cs apart some q few fits q_some 2 (lacking_from b (suc n)) (every_number (suc c)) false x k.2.0)
+            (λ z. refl) (λ rs. refl) to_chunks r.qs r.all (omega (arith, long, counted, some)) in
+        let same_b : configs bs ≡ cs = begun_configs (Chunks b) r.qs ∙ r.same in
+        let all_b : AllByRecursion (IsChunking 0 (suc c)) bs =
+            all_begin laws fields tiles p meta config image blocks good whole chunk_some cs apart some q few fits q_some (Done BD) (IsChunking 0 (suc c)) (Chunks b) chunks_begin r.qs r.all in
+        let list = lists b c total (lacking_from b (suc n)) bs (only_rows bs all_b) same_b in
+        let next = turn_next laws p meta config image (At (Block b)) r.qs xs r.station (Chunks b) leads in
+        let done = begin_chunks laws fields tiles p meta config image blocks good q few whole chunk_some to b n c total mc bs (turn xs) (first_items laws p meta config image (Chunks b) bs) list next
+            (subst (AllByRecursion (Reaches to)) (sym same_b) reached) all_b le_c in
+        by_turn mc (At_ (At (Chunks b)) (IsChunking (suc c) 0)) xs (record {
+          turns = done.turns; few = done.few;
+          then_is = (let f = done.then_is in record { qs = f.qs; station = f.station; all = f.all; same = f.same ∙ same_b });
+        })
+
+    -- ---- what is asked after them
+
+    abbrev GD : ℕ → Pair → Type 0
+    GD j x = GetD fields tiles p meta image u blocks good q few whole chunk_some b n c j x
+
+    after_begins : (m : ℕ) (x : Pair) → Chunked fields tiles p meta image u blocks good q few whole chunk_some b m (suc c) 0 q x
+        → After fields tiles p meta image u blocks good q few whole chunk_some q b m 0 (begins laws p meta config image (Get b) x)
+    after_begins zero x h = inl (q, runs_at (Get b) (held (suc b) 0) (Some (last b)) q x h)
+    after_begins (suc m) x h =
+        runs_longer fields p meta image u blocks good q few (held (suc b) (suc m)) (Some (last b)) q (q + 0) (begins laws p meta config image (Get b) x) (omega arith)
+        (runs_at (Get b) (held (suc b) (suc m)) (Some (last b)) q x h)
+
+    get_begins : (x : Pair) → IsChunking (suc c) 0 x → GetW fields tiles p meta image u blocks good q few whole chunk_some b n c 0 (begins laws p meta config image (Get b) x)
+    get_begins x h = (
+      row_begun_by laws fields tiles p meta config image blocks good whole chunk_some cs apart some q few fits q_some true (Get b) 2 (lacking_from b (suc n)) (every_number (suc c)) x h.0 refl,
+      after_begins n x h.1)
+
+    got : (xs : List Member) → At_ (At (Chunks b)) (IsChunking (suc c) 0) xs → Within q (At_ (At (Get b)) (Done GD)) xs
+    got xs r =
+        go_step laws fields tiles p meta config image blocks good whole chunk_some cs apart some q few fits q_some (At (Chunks b)) (IsChunking (suc c) 0) (Get b) (OfBlob BlockGet)
+        (GetW fields tiles p meta image u blocks good q few whole chunk_some b n c) GD (get_asking fields tiles p meta image u blocks good q few whole chunk_some b n c total sum) (λ rs. refl) get_begins
+        (λ ps h le. leads_on laws p meta config image (Chunks b) (Get b) ps (λ began moment. refl) refl
+            (some_active laws fields tiles p meta config image blocks good whole chunk_some cs apart some q few fits q_some (IsChunking (suc c) 0)
+                (λ x k. (row_is laws fields tiles p meta config image blocks good whole chunk_some cs apart some q few fits q_some 2 (lacking_from b (suc n)) (every_number (suc c)) true x k.0).1) ps h le)) xs r
+
+    -- A BLOCK
+    pub one_block : (s : Step) → EndsBlock s → (xs : List Member) → At_ (At s) (Between b (suc n)) xs → Within (q + (suc mc + q)) (At_ (At (Get b)) (Done GD)) xs
+    one_block s e xs r =
+        and_then q (suc mc + q) (At_ (At (Block b)) (Done BD)) (At_ (At (Get b)) (Done GD)) xs (begun s e xs r)
+        (λ ys t. and_then (suc mc) q (At_ (At (Chunks b)) (IsChunking (suc c) 0)) (At_ (At (Get b)) (Done GD)) ys (chunked ys t) got)
+
+  -- ---- from block to block
+
+  mapped : (P Q : Pair → Type 0) → ((x : Pair) → P x → Q x) → (ps : List Pair) → AllByRecursion P ps → AllByRecursion Q ps
+  mapped P Q f [] h = tt
+  mapped P Q f (x ∷ ps) h = (f x h.0, mapped P Q f ps h.1)
+
+  pub reached_as : (place : Place) (P Q : Pair → Type 0) → ((x : Pair) → P x → Q x) → (xs : List Member) → At_ place P xs → At_ place Q xs
+  reached_as place P Q f xs r = record { qs = r.qs; station = r.station; all = mapped P Q f r.qs r.all; same = r.same }
+
+  to_between : (b n c : ℕ) (x : Pair) → Done (GetD fields tiles p meta image u blocks good q few whole chunk_some b (suc n) c) x → Between (suc b) (suc n) x
+  to_between b n c x h = record {
+    chunks = no_number (suc c); none = none_some (suc c); row = h.2.0; before = Some (last b);
+    runs = runs_longer fields p meta image u blocks good q few (held (suc b) (suc n)) (Some (last b)) (0 + h.0) q x (let le = h.1 in omega (arith, le)) h.2.1;
+  }
+
+  to_all : (b c : ℕ) → b ≡ blocks → (x : Pair) → Done (GetD fields tiles p meta image u blocks good q few whole chunk_some b 0 c) x → AllHeld x
+  to_all b c e x h =
+      subst (λ i. (y : Pair) → Done (GetD fields tiles p meta image u blocks good q few whole chunk_some i 0 c) y → AllHeld y) (sym e)
+      (λ y k. record { c = c; row = k.2.0; j = k.0; sealing = k.2.1 }) x h
+
+  pub record Ended_blocks (xs : List Member) : Type 0 where
+    pub b : ℕ
+    pub held_all : At_ (At (Get b)) AllHeld xs
+
+  pub all_blocks : (n b : ℕ) (s : Step) → EndsBlock s → b + suc n ≡ suc blocks → (xs : List Member) → At_ (At s) (Between b (suc n)) xs
+      → Within (suc n * (q + (suc mc + q))) Ended_blocks xs
+  all_blocks zero b s e sum xs r =
+      let k = counts b (omega (arith, sum)) in
+      let one = one_block b 0 k.0 sum k.1 k.2 s e xs r in
+      more_room (q + (suc mc + q)) (1 * (q + (suc mc + q))) Ended_blocks xs (omega arith)
+      (so (q + (suc mc + q)) (At_ (At (Get b)) (Done (GetD fields tiles p meta image u blocks good q few whole chunk_some b 0 k.0))) Ended_blocks xs
+        (λ ys t. record { b = b; held_all = reached_as (At (Get b)) _ AllHeld (to_all b k.0 (omega (arith, sum))) ys t }) one)
+  all_blocks (suc n) b s e sum xs r =
+      let k = counts b (omega (arith, sum)) in
+      let one = one_block b (suc n) k.0 sum k.1 k.2 s e xs r in
+      let both = and_then (q + (suc mc + q)) (suc n * (q + (suc mc + q))) (At_ (At (Get b)) (Done (GetD fields tiles p meta image u blocks good q few whole chunk_some b (suc n) k.0))) Ended_blocks xs one
+          (λ ys t. all_blocks n (suc b) (Get b) tt (omega (arith, sum)) ys (reached_as (At (Get b)) _ (Between (suc b) (suc n)) (to_between b n k.0) ys t)) in
+      more_room ((q + (suc mc + q)) + suc n * (q + (suc mc + q))) (suc (suc n) * (q + (suc mc + q))) Ended_blocks xs (omega arith) both
+
+  pub first_between : (x : Pair) → Done (TransferD fields p meta image u blocks good q few) x → Between 0 (suc blocks) x
+  first_between x h = record {
+    chunks = []; none = refl; row = h.2.0; before = None;
+    runs = runs_longer fields p meta image u blocks good q few (held 0 (suc blocks)) None h.0 q x h.1 h.2.1;
+  }
