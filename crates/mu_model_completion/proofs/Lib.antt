@@ -12,3 +12,4 @@ pub mod Last
 pub mod Sixteens
 pub mod Course
 pub mod Middle
+pub mod End

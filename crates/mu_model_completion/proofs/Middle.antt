@@ -43,16 +43,16 @@ module _ (laws : KeepsPlan) (fields : FieldsAreRead) (tiles : Tiles) (p : Sendin
   abbrev u : ℕ
   u = config.address
 
-  abbrev At_ : Place → (Pair → Type 0) → List Member → Type 0
+  abbrev pub At_ : Place → (Pair → Type 0) → List Member → Type 0
   At_ place P xs = Reached laws fields tiles p meta config image blocks good whole chunk_some cs apart some q few fits q_some place P xs
 
-  abbrev Done : (ℕ → Pair → Type 0) → Pair → Type 0
+  abbrev pub Done : (ℕ → Pair → Type 0) → Pair → Type 0
   Done D x = Answered laws fields tiles p meta config image blocks good whole chunk_some cs apart some q few fits q_some D x
 
-  abbrev held : ℕ → ℕ → Slots
+  abbrev pub held : ℕ → ℕ → Slots
   held b n = held_of fields tiles p meta image u blocks good q few whole chunk_some b n
 
-  abbrev last : ℕ → LastBlock
+  abbrev pub last : ℕ → LastBlock
   last b = last_of fields tiles p meta image u blocks good q few whole chunk_some b
 
   -- b blocks are held by all, and n by none
@@ -63,8 +63,7 @@ module _ (laws : KeepsPlan) (fields : FieldsAreRead) (tiles : Tiles) (p : Sendin
     before : Option LastBlock
     runs : Runs fields p meta image u blocks good q few (held b n) before q x
 
-  pub record AllHeld (x : Pair) : Type 0 where
-    pub c : ℕ
+  pub record AllHeld (c : ℕ) (x : Pair) : Type 0 where
     pub row : Row 2 (lacking_from (suc blocks) 0) (no_number (suc c)) false x
     pub j : ℕ
     pub sealing : Sealing fields tiles p meta image u blocks good q few whole chunk_some (held (suc blocks) 0) (Some (last blocks)) j x
@@ -74,11 +73,11 @@ module _ (laws : KeepsPlan) (fields : FieldsAreRead) (tiles : Tiles) (p : Sendin
 
   -- ---- the least block that is missed
 
-  no_chunks : (P : Pair → Type 0) → ((x : Pair) → P x → misses_chunks x.r ≡ false) → (ps : List Pair) → AllByRecursion P ps → list_any misses_chunks (map receiver_in ps) ≡ false
+  pub no_chunks : (P : Pair → Type 0) → ((x : Pair) → P x → misses_chunks x.r ≡ false) → (ps : List Pair) → AllByRecursion P ps → list_any misses_chunks (map receiver_in ps) ≡ false
   no_chunks P f [] h = refl
   no_chunks P f (x ∷ ps) h = ap (λ b. b || list_any misses_chunks (map receiver_in ps)) (f x h.0) ∙ no_chunks P f ps h.1
 
-  not_missed : (P : Pair → Type 0) (k : ℕ) → ((x : Pair) → P x → misses_block k x.r ≡ false) → (ps : List Pair) → AllByRecursion P ps → list_any (misses_block k) (map receiver_in ps) ≡ false
+  pub not_missed : (P : Pair → Type 0) (k : ℕ) → ((x : Pair) → P x → misses_block k x.r ≡ false) → (ps : List Pair) → AllByRecursion P ps → list_any (misses_block k) (map receiver_in ps) ≡ false
   not_missed P k f [] h = refl
   not_missed P k f (x ∷ ps) h = ap (λ b. b || list_any (misses_block k) (map receiver_in ps)) (f x h.0) ∙ not_missed P k f ps h.1
 
@@ -86,7 +85,7 @@ module _ (laws : KeepsPlan) (fields : FieldsAreRead) (tiles : Tiles) (p : Sendin
   is_missed P k f [] h le = absurd (omega (arith, le))
   is_missed P k f (x ∷ ps) h le = ap (λ b. b || list_any (misses_block k) (map receiver_in ps)) (f x h.0)
 
-  row_misses : (b n k : ℕ) (x : Pair) (chunks : List Bool) (pending : Bool) → Row 2 (lacking_from b n) chunks pending x → misses_block k x.r ≡ has (lacking_from b n) k
+  pub row_misses : (b n k : ℕ) (x : Pair) (chunks : List Bool) (pending : Bool) → Row 2 (lacking_from b n) chunks pending x → misses_block k x.r ≡ has (lacking_from b n) k
   row_misses b n k x chunks pending h = ap (misses_block k) h.r_is
 
   next_is : (b n : ℕ) → b + suc n ≡ suc blocks → (ps : List Pair) → AllByRecursion (Between b (suc n)) ps → 1 ≤ length ps
@@ -99,7 +98,7 @@ module _ (laws : KeepsPlan) (fields : FieldsAreRead) (tiles : Tiles) (p : Sendin
           (is_missed (Between b (suc n)) b (λ x w. row_misses b (suc n) b x w.chunks false w.row ∙ missed_at b n) ps h le) in
       ap (d.block_or (Go Verify)) least
 
-  after_is : (s : Step) → EndsBlock s → (rs : List Receiver) → list_any misses_chunks rs ≡ false → d.after p (Update meta true) rs s ≡ d.next_block p (Update meta true) rs
+  pub after_is : (s : Step) → EndsBlock s → (rs : List Receiver) → list_any misses_chunks rs ≡ false → d.after p (Update meta true) rs s ≡ d.next_block p (Update meta true) rs
   after_is Transfer e rs h = refl
   after_is (Get b) e rs h = ap (λ z. if z then Go (Chunks b) else d.next_block p (Update meta true) rs) h
   after_is Check e rs h = absurd e
@@ -113,7 +112,7 @@ module _ (laws : KeepsPlan) (fields : FieldsAreRead) (tiles : Tiles) (p : Sendin
   after_is Confirm e rs h = absurd e
   after_is Cancel e rs h = absurd e
 
-  counts_done : (s : Step) → EndsBlock s → (c : Client) → d.is_done c s ≡ not (list_any is_pending c.receivers)
+  pub counts_done : (s : Step) → EndsBlock s → (c : Client) → d.is_done c s ≡ not (list_any is_pending c.receivers)
   counts_done Transfer e c = refl
   counts_done (Get b) e c = refl
   counts_done Check e c = absurd e
@@ -127,12 +126,12 @@ module _ (laws : KeepsPlan) (fields : FieldsAreRead) (tiles : Tiles) (p : Sendin
   counts_done Confirm e c = absurd e
   counts_done Cancel e c = absurd e
 
-  no_chunk : (x : Pair) (bs chunks : List Bool) → has_some chunks ≡ false → Row 2 bs chunks false x → misses_chunks x.r ≡ false
+  pub no_chunk : (x : Pair) (bs chunks : List Bool) → has_some chunks ≡ false → Row 2 bs chunks false x → misses_chunks x.r ≡ false
   no_chunk x bs chunks none h = ap misses_chunks h.r_is ∙ none
 
   -- ---- a block
 
-  runs_at : (step : Step) (hs : Slots) (before : Option LastBlock) (a : ℕ) (x : Pair) → Runs fields p meta image u blocks good q few hs before a x → Runs fields p meta image u blocks good q few hs before a (begins laws p meta config image step x)
+  pub runs_at : (step : Step) (hs : Slots) (before : Option LastBlock) (a : ℕ) (x : Pair) → Runs fields p meta image u blocks good q few hs before a x → Runs fields p meta image u blocks good q few hs before a (begins laws p meta config image step x)
   runs_at step hs before a x h = record { capacity = h.capacity; active = h.active; images = h.images; offer = h.offer; count = h.count; fresh = h.fresh; heard = h.heard; lately = h.lately; n_is = h.n_is }
 
   module _ (b n c : ℕ) (sum : b + suc n ≡ suc blocks) (total : chunk_total p b ≡ suc c) (le_c : suc c ≤ 16 * suc mc) where
@@ -235,7 +234,7 @@ module _ (laws : KeepsPlan) (fields : FieldsAreRead) (tiles : Tiles) (p : Sendin
 
   -- ---- from block to block
 
-  mapped : (P Q : Pair → Type 0) → ((x : Pair) → P x → Q x) → (ps : List Pair) → AllByRecursion P ps → AllByRecursion Q ps
+  pub mapped : (P Q : Pair → Type 0) → ((x : Pair) → P x → Q x) → (ps : List Pair) → AllByRecursion P ps → AllByRecursion Q ps
   mapped P Q f [] h = tt
   mapped P Q f (x ∷ ps) h = (f x h.0, mapped P Q f ps h.1)
 
@@ -248,14 +247,15 @@ module _ (laws : KeepsPlan) (fields : FieldsAreRead) (tiles : Tiles) (p : Sendin
     runs = runs_longer fields p meta image u blocks good q few (held (suc b) (suc n)) (Some (last b)) (0 + h.0) q x (let le = h.1 in omega (arith, le)) h.2.1;
   }
 
-  to_all : (b c : ℕ) → b ≡ blocks → (x : Pair) → Done (GetD fields tiles p meta image u blocks good q few whole chunk_some b 0 c) x → AllHeld x
+  to_all : (b c : ℕ) → b ≡ blocks → (x : Pair) → Done (GetD fields tiles p meta image u blocks good q few whole chunk_some b 0 c) x → AllHeld c x
   to_all b c e x h =
-      subst (λ i. (y : Pair) → Done (GetD fields tiles p meta image u blocks good q few whole chunk_some i 0 c) y → AllHeld y) (sym e)
-      (λ y k. record { c = c; row = k.2.0; j = k.0; sealing = k.2.1 }) x h
+      subst (λ i. (y : Pair) → Done (GetD fields tiles p meta image u blocks good q few whole chunk_some i 0 c) y → AllHeld c y) (sym e)
+      (λ y k. record { row = k.2.0; j = k.0; sealing = k.2.1 }) x h
 
   pub record Ended_blocks (xs : List Member) : Type 0 where
     pub b : ℕ
-    pub held_all : At_ (At (Get b)) AllHeld xs
+    pub c : ℕ
+    pub held_all : At_ (At (Get b)) (AllHeld c) xs
 
   pub all_blocks : (n b : ℕ) (s : Step) → EndsBlock s → b + suc n ≡ suc blocks → (xs : List Member) → At_ (At s) (Between b (suc n)) xs
       → Within (suc n * (q + (suc mc + q))) Ended_blocks xs
@@ -264,7 +264,7 @@ module _ (laws : KeepsPlan) (fields : FieldsAreRead) (tiles : Tiles) (p : Sendin
       let one = one_block b 0 k.0 sum k.1 k.2 s e xs r in
       more_room (q + (suc mc + q)) (1 * (q + (suc mc + q))) Ended_blocks xs (omega arith)
       (so (q + (suc mc + q)) (At_ (At (Get b)) (Done (GetD fields tiles p meta image u blocks good q few whole chunk_some b 0 k.0))) Ended_blocks xs
-        (λ ys t. record { b = b; held_all = reached_as (At (Get b)) _ AllHeld (to_all b k.0 (omega (arith, sum))) ys t }) one)
+        (λ ys t. record { b = b; c = k.0; held_all = reached_as (At (Get b)) _ (AllHeld k.0) (to_all b k.0 (omega (arith, sum))) ys t }) one)
   all_blocks (suc n) b s e sum xs r =
       let k = counts b (omega (arith, sum)) in
       let one = one_block b (suc n) k.0 sum k.1 k.2 s e xs r in
