@@ -39,29 +39,29 @@ module _ (laws : KeepsPlan) (fields : FieldsAreRead) (tiles : Tiles) (p : Sendin
   abbrev u : ℕ
   u = config.address
 
-  abbrev At_ : Place → (Pair → Type 0) → List Member → Type 0
+  abbrev pub At_ : Place → (Pair → Type 0) → List Member → Type 0
   At_ place P xs = Reached laws fields tiles p meta config image blocks good whole chunk_some cs apart some q few fits q_some place P xs
 
   abbrev Done : (ℕ → Pair → Type 0) → Pair → Type 0
   Done D x = Answered laws fields tiles p meta config image blocks good whole chunk_some cs apart some q few fits q_some D x
 
-  abbrev held : Slots
+  abbrev pub held : Slots
   held = held_of fields tiles p meta image u blocks good q few whole chunk_some (suc blocks) 0
 
-  abbrev last : Option LastBlock
+  abbrev pub last : Option LastBlock
   last = Some (last_of fields tiles p meta image u blocks good q few whole chunk_some blocks)
 
-  abbrev none : List Bool
+  abbrev pub none : List Bool
   none = lacking_from (suc blocks) 0
 
-  all_full : is_full held ≡ true
+  pub all_full : is_full held ≡ true
   all_full = full (blk fields tiles p meta image u blocks good q few whole chunk_some) (suc blocks) 0
 
-  all_is : joined held ≡ image
+  pub all_is : joined held ≡ image
   all_is = image_joined fields tiles p meta image u blocks good q few whole chunk_some (suc blocks) refl
 
   module _ (c : ℕ) where
-    abbrev chunks : List Bool
+    abbrev pub chunks : List Bool
     chunks = no_number (suc c)
 
     abbrev VW : ℕ → Pair → Type 0
@@ -149,7 +149,7 @@ module _ (laws : KeepsPlan) (fields : FieldsAreRead) (tiles : Tiles) (p : Sendin
         (next_leads laws fields tiles p meta config image blocks good whole chunk_some cs apart some q few fits q_some Apply Confirm (Done AD)
             (λ x k. row_is laws fields tiles p meta config image blocks good whole chunk_some cs apart some q few fits q_some 6 none chunks false x k.2.0) (λ z. refl) (λ rs. refl) (λ ps h le. refl)) xs r
 
-    abbrev Final : Pair → Type 0
+    abbrev pub Final : Pair → Type 0
     Final x = Row 8 none chunks false x × IsActive fields tiles p meta image u blocks good q few whole chunk_some held last all_full all_is none chunks x
 
     -- from the last block on
@@ -159,3 +159,91 @@ module _ (laws : KeepsPlan) (fields : FieldsAreRead) (tiles : Tiles) (p : Sendin
         (λ ys s. and_then q q (At_ (At Apply) (Done AD)) (At_ (At Confirm) Final) ys (applied ys s)
           (λ zs t. so q (At_ (At Confirm) (Done CD)) (At_ (At Confirm) Final) zs
             (reached_as laws fields tiles p meta config image blocks good whole chunk_some cs apart some q few fits q_some to mc reached counts lists (At Confirm) (Done CD) Final (λ x h. h.2)) (confirmed zs t)))
+
+    -- ---- and from then on
+
+    final_later : (v : Client) (x : Pair) → Final x → Final (pair_time v u x)
+    final_later v x h =
+        let t = applies_later fields tiles p meta image u blocks good q few whole chunk_some held last all_full all_is none chunks v x (inr h.1) in
+        (record { r_is = t.1 ∙ h.0.r_is }, t.0)
+
+    all_later : (v : Client) (ps : List Pair) → AllByRecursion Final ps → AllByRecursion Final (map (pair_time v u) ps)
+    all_later v [] h = tt
+    all_later v (x ∷ ps) h = (final_later v x h.0, all_later v ps h.1)
+
+    same_configs : (v : Client) (ps : List Pair) → configs (map (pair_time v u) ps) ≡ configs ps
+    same_configs v [] = refl
+    same_configs v (x ∷ ps) = ap (λ zs. x.config ∷ zs) (same_configs v ps)
+
+    map_id : (rs : List Receiver) → rs ≡ map (λ (r : Receiver). r) rs
+    map_id [] = refl
+    map_id (r ∷ rs) = ap (λ ys. r ∷ ys) (map_id rs)
+
+    -- all have succeeded, and the client is at its last step or has ended
+    pub record Over (xs : List Member) : Type 0 where
+      pub place : Place
+      pub at_end : (place ≡ At Confirm) ⊎ (place ≡ Ended Applying)
+      pub qs : List Pair
+      pub station : Station laws p meta config image place [] qs xs
+      pub all : AllByRecursion Final qs
+      pub same : configs qs ≡ cs
+
+    -- a turn in which the client sends nothing
+    silent : (place next : Place) (ps : List Pair) (xs : List Member) → Station laws p meta config image place [] ps xs
+        → ((began moment : ℕ) → d.by_place (client_at laws p meta config image place [] began moment (map receiver_in ps)) image place
+            ≡ d.sends_nothing (client_at laws p meta config image next [] began moment (map receiver_in ps)))
+        → (v : Client) × Station laws p meta config image next [] (map (pair_time v u) ps) (turn xs)
+    silent place next ps xs s quiet =
+        let v : Client = client_at laws p meta config image next [] s.began (max s.moment (s.now + 100)) (map receiver_in ps) in
+        let early = s.early in
+        let late : max s.moment (s.now + 100) ≡ s.now + 100 = omega (arith, early) in
+        (v, record {
+          now = s.now + 100; began = s.began; moment = max s.moment (s.now + 100); early = omega (arith, late);
+          holds = turned laws config image s.now _ ps xs s.holds (λ r. r) (λ r. refl) (d.sends_nothing v) (quiet s.began (max s.moment (s.now + 100))) (map_id (map receiver_in ps)) late;
+        })
+
+    confirm_ends : (ps : List Pair) → AllByRecursion Final ps → (began moment : ℕ)
+        → d.by_place (client_at laws p meta config image (At Confirm) [] began moment (map receiver_in ps)) image (At Confirm)
+        ≡ d.sends_nothing (client_at laws p meta config image (Ended Applying) [] began moment (map receiver_in ps))
+    confirm_ends ps h began moment =
+        ap (λ b. d.by_step (client_at laws p meta config image (At Confirm) [] began moment (map receiver_in ps)) image Confirm (not b))
+        (nobody_pending laws fields tiles p meta config image blocks good whole chunk_some cs apart some q few fits q_some Final (λ x k. ap (λ (r : Receiver). r.pending) k.0.r_is) ps h)
+
+    over_turn : (xs : List Member) → Over xs → Over (turn xs)
+    over_turn xs o = elim o.at_end [
+        | inl e ↦ (
+            let t = silent (At Confirm) (Ended Applying) o.qs xs (subst (λ place. Station laws p meta config image place [] o.qs xs) e o.station) (confirm_ends o.qs o.all) in
+            record { place = Ended Applying; at_end = inr refl; qs = map (pair_time t.0 u) o.qs; station = t.1; all = all_later t.0 o.qs o.all; same = same_configs t.0 o.qs ∙ o.same })
+        | inr e ↦ (
+            let t = silent (Ended Applying) (Ended Applying) o.qs xs (subst (λ place. Station laws p meta config image place [] o.qs xs) e o.station) (λ began moment. refl) in
+            record { place = Ended Applying; at_end = inr refl; qs = map (pair_time t.0 u) o.qs; station = t.1; all = all_later t.0 o.qs o.all; same = same_configs t.0 o.qs ∙ o.same })
+      ]
+
+    over_always : (n : ℕ) (xs : List Member) → Over xs → Over (settle n xs)
+    over_always zero xs o = o
+    over_always (suc n) xs o = over_always n (turn xs) (over_turn xs o)
+
+  -- ---- the whole course
+
+  pub record SomeOver (xs : List Member) : Type 0 where
+    pub c : ℕ
+    pub over : Over c xs
+
+  pub some_always : (n : ℕ) (xs : List Member) → SomeOver xs → SomeOver (settle n xs)
+  some_always n xs o = record { c = o.c; over = over_always o.c n xs o.over }
+
+  -- turns: four steps, the blocks, and three steps
+  abbrev pub turns_in_all : ℕ
+  turns_in_all = (q + (q + (q + q))) + (suc blocks * (q + (suc mc + q)) + (q + (q + q)))
+
+  pub course : (xs : List Member) → At_ (Before Check) (First laws fields tiles p meta config image blocks good whole chunk_some cs apart some q few fits q_some) xs → Within turns_in_all SomeOver xs
+  course xs r =
+      and_then (q + (q + (q + q))) (suc blocks * (q + (suc mc + q)) + (q + (q + q))) (At_ (At Transfer) (Done (TransferD fields p meta image u blocks good q few))) SomeOver xs
+      (four laws fields tiles p meta config image blocks good whole chunk_some cs apart some q few fits q_some xs r)
+      (λ ys s. and_then (suc blocks * (q + (suc mc + q))) (q + (q + q)) (Ended_blocks laws fields tiles p meta config image blocks good whole chunk_some cs apart some q few fits q_some to mc reached counts lists) SomeOver ys
+        (all_blocks laws fields tiles p meta config image blocks good whole chunk_some cs apart some q few fits q_some to mc reached counts lists blocks 0 Transfer tt (omega arith) ys
+            (reached_as laws fields tiles p meta config image blocks good whole chunk_some cs apart some q few fits q_some to mc reached counts lists (At Transfer) _ _
+                (first_between laws fields tiles p meta config image blocks good whole chunk_some cs apart some q few fits q_some to mc reached counts lists) ys s))
+        (λ zs t. so (q + (q + q)) (At_ (At Confirm) (Final t.c)) SomeOver zs
+          (λ ws o. record { c = t.c; over = record { place = At Confirm; at_end = inl refl; qs = o.qs; station = o.station; all = o.all; same = o.same } })
+          (last_steps t.c t.b zs t.held_all)))
