@@ -13,3 +13,4 @@ pub mod Sixteens
 pub mod Course
 pub mod Middle
 pub mod End
+pub mod Theorem

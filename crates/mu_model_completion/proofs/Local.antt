@@ -18,22 +18,14 @@ use Rattle.mu_model_client.specs.Told as t
 use Rattle.mu_model_client.specs.Told.{told}
 use Rattle.mu_model_client.specs.Due.{Due, due}
 use Rattle.mu_model_client_laws.specs.Laws.{KeepsPlan}
+pub use Rattle.mu_model_completion.specs.Completion.{at_address, Distinct}
 use Rattle.mu_model_completion.specs.Turn.{Member, Part, IsNode, IsUpdater, Body, Asks, Replies, Sent, Moved, asked_by, replied_by, stands, node_moved, updater_moved, later, part_timed, timed, node_given, updater_given, part_given, group_of, is_for, given_if, given, after_packet, answers_to, delivered, answers, after_time, sent_in_time, deliveries, turn}
 
 -- ---- members by address
 
-abbrev pub at_address : ℕ → List Member → Option Member
-at_address a [] = None
-at_address a (x ∷ xs) = if x.config.address == a then Some x else at_address a xs
-
 abbrev pub mapped : (Member → Member) → Option Member → Option Member
 mapped f None = None
 mapped f (Some x) = Some (f x)
-
--- no two have one address
-abbrev pub Distinct : List Member → Type 0
-Distinct [] = Unit {0}
-Distinct (x ∷ xs) = (at_address x.config.address xs ≡ None) × Distinct xs
 
 pub KeepsConfig : (Member → Member) → Type 0
 KeepsConfig f = (x : Member) → (f x).config ≡ x.config

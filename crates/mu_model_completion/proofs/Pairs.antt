@@ -14,15 +14,11 @@ use Rattle.mu_model_client.specs.Begin.{is_ended}
 use Rattle.mu_model_client.specs.Due as d
 use Rattle.mu_model_client.specs.Due.{Due, due}
 use Rattle.mu_model_client_laws.specs.Laws.{KeepsPlan}
+pub use Rattle.mu_model_completion.specs.Completion.{IsQuiet, AllQuiet}
 use Rattle.mu_model_completion.specs.Turn.{Member, Part, IsNode, IsUpdater, Body, Asks, Replies, Sent, Moved, asked_by, replied_by, later, part_timed, node_given, updater_given, part_given, is_for, given_if, after_packet, answers_to, delivered, answers, after_time, sent_in_time, deliveries, turn}
 use Rattle.mu_model_completion.proofs.Local.{at_address, mapped, Distinct, at_mapped, distinct_mapped, time_keeps, packet_keeps, takes_keeps, config_kept, takes, delivered_is, tells, tells_append, tells_kept, tells_some, tells_answers, own, time_from, updater_at, with_receivers, client_told}
 
 -- ---- members that ask nothing
-
--- a node, or an updater that has ended
-abbrev pub IsQuiet : Part → Type 0
-IsQuiet (IsNode s) = Unit {0}
-IsQuiet (IsUpdater c image) = is_ended c.place ≡ true
 
 abbrev pub IsReply : Body → Type 0
 IsReply (Replies reply) = Unit {0}
@@ -96,10 +92,6 @@ answers_reply [] xs = tt
 answers_reply (p ∷ ps) xs =
     all_append (λ (s : Sent). IsReply s.body) (flat_map (answers_to p) xs) (answers ps (map (after_packet p) xs))
     (all_flat (λ (s : Sent). IsReply s.body) (answers_to p) (λ x. given_replies p x (is_for x p)) xs) (answers_reply ps (map (after_packet p) xs))
-
--- all but the one at this address
-abbrev pub AllQuiet : ℕ → List Member → Type 0
-AllQuiet u xs = AllByRecursion (λ (x : Member). (x.config.address == u) ≡ false → IsQuiet x.part) xs
 
 quiet_mapped : (u : ℕ) (f : Member → Member) → ((x : Member) → (f x).config ≡ x.config) → ((x : Member) → IsQuiet x.part → IsQuiet (f x).part) → (xs : List Member) → AllQuiet u xs → AllQuiet u (map f xs)
 quiet_mapped u f c k [] h = tt
