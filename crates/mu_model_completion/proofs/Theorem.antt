@@ -1,11 +1,11 @@
 -- Completion without loss, in push.
-use Rattle.std.proofs.Common.{◌≡◌, ◌⊎◌, inl, inr, ◌<◌, ◌≤◌, ◌+◌, ◌-◌, ◌*◌, ◌/◌, ◌^◌, ◌==◌, ℕ, zero, suc, List, [], ◌∷◌, ◌++◌, refl, sym, ap, ◌∙◌, subst, true, false, Bool, Option, Some, None, arith, map, max, min, length, take, drop}
+use Rattle.std.proofs.Common.{◌≡◌, ◌⊎◌, inl, inr, ◌<◌, ◌≤◌, ◌+◌, ◌-◌, ◌*◌, ◌/◌, ◌^◌, ◌==◌, ℕ, zero, suc, List, [], ◌∷◌, ◌++◌, refl, sym, ap, ◌∙◌, subst, true, false, Bool, Option, Some, None, arith, map, max, min, length, take, drop, lit≤}
 use Rattle.std.specs.Prelude.{◌≢◌, ◌&&◌, ◌||◌, not, if◌then◌else◌, nat_lt, nat_le, IsTrue, ◌↔◌}
 use Rattle.std.specs.List.{list_any, flat_map, range_with_len, AllByRecursion}
 use Rattle.std.proofs.lemmas.Bool.{eq-eqb, eqb-true}
 use Rattle.std.proofs.lemmas.Bool.Decides.{nat_tests}
 use Rattle.std.proofs.lemmas.Nat.{pow_pos}
-use Rattle.std.proofs.Math.Nat.{le-div_iff_mul-le, lt-div-mul-add, div-mul-le_self, pow-le-pow_right}
+use Rattle.std.proofs.Math.Nat.{suc-mul, le-div_iff_mul-le, lt-div-mul-add, div-mul-le_self, pow-le-pow_right}
 use Rattle.mu_model_image.specs.declared.Meta.{Meta}
 use Rattle.mu_model_image.specs.Meta.{Image, IsMeta, IsFit, is_fit}
 use Rattle.mu_model_image.specs.Pieces.{piece_count, block_count, block_length, chunk_count}
@@ -75,3 +75,45 @@ module _ (p : Sending) where
       (λ k low high. ap (λ z. map (λ to. Sends to b k) (if z then lacking missing_of (x.r ∷ []) k else l.to_group p.group (lacking missing_of (x.r ∷ []) k))) g
         ∙ (ap (λ z. map (λ to. Sends to b k) (l.lacking_if x.r.row.address z ++ [])) (ap (l.lacks_chunk missing_of k) row.r_is ∙ has_every (suc c) 0 k (omega (arith, high)))
         ∙ ap (λ to. Sends to b k ∷ []) (ap (λ (r : Receiver). r.row.address) row.r_is ∙ place)))
+
+-- ---- counts of blocks and chunks
+
+next_mul : (k part : ℕ) → (k + 1) * part ≡ k * part + part
+next_mul k part = let h = suc-mul k part in let e : suc k ≡ k + 1 = omega arith in rw e at h
+
+module _ (tiles : Tiles) (p : Sending) (chunk_some : 0 < p.chunk) where
+  some_length : (b : ℕ) → b < block_total p → 0 < block_length p.size p.log b
+  some_length b lt =
+      let within : b * 2 ^ p.log < p.size = (tiles.blocks_within p.size p.log b).0 lt in
+      let e = next_mul b (2 ^ p.log) in
+      let pos = pow_pos p.log in
+      omega (arith, within, e, pos)
+
+  some_chunk : (b : ℕ) → b < block_total p → 0 < chunk_total p b
+  some_chunk b lt =
+      let long = some_length b lt in
+      (tiles.chunks_within (block_length p.size p.log b) p.chunk 0 chunk_some).1 (omega (arith, long))
+
+  no_longer : (b : ℕ) → block_length p.size p.log b ≤ block_length p.size p.log 0
+  no_longer b = let e = next_mul b (2 ^ p.log) in let f = next_mul 0 (2 ^ p.log) in omega (arith, e, f)
+
+  no_more : (b : ℕ) → chunk_total p b ≤ chunk_total p 0
+  no_more b = fewer_pieces (block_length p.size p.log b) (block_length p.size p.log 0) p.chunk chunk_some (no_longer b)
+
+full_few : (p : Sending) → p.log ≤ 14 → 8 ≤ p.chunk → full_chunks p ≤ 2048
+full_few p log least =
+    let small : 2 ^ p.log ≤ 2 ^ 14 = pow-le-pow_right {n = 2} (lit≤ tt) log in
+    let fewer = fewer_pieces (2 ^ p.log) 16384 p.chunk (omega (arith, least)) (omega (arith, small)) in
+    let most : piece_count 16384 p.chunk ≤ 2048 = not_more p.chunk least in
+    omega (arith, fewer, most)
+  where
+  not_more : (c : ℕ) → 8 ≤ c → piece_count 16384 c ≤ 2048
+  not_more c least = elim (which (piece_count 16384 c)) [
+      | inl h ↦ h
+      | inr h ↦ (let k : 2049 * c ≤ 16384 + c - 1 = (le-div_iff_mul-le (positive c least)).0 h in absurd (omega (arith, k, least)))
+    ]
+    where
+    which : (n : ℕ) → (n ≤ 2048) ⊎ (2049 ≤ n)
+    which n = grind arith
+    positive : (c : ℕ) → 8 ≤ c → 0 < c
+    positive c least = omega (arith, least)
