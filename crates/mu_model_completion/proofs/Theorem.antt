@@ -117,3 +117,113 @@ full_few p log least =
     which n = grind arith
     positive : (c : ℕ) → 8 ≤ c → 0 < c
     positive c least = omega (arith, least)
+
+-- ---- the pairs of an update that can begin
+
+none_some : (x : Member) → None ≡ Some x → ⊥
+none_some x e = grind (arith, e)
+
+or_else : Member → Option Member → Member
+or_else z None = z
+or_else z (Some w) = w
+
+some_same : (x y : Member) → Some x ≡ Some y → x ≡ y
+unfolding or_else
+some_same x y h = ap (or_else x) h
+
+found_here : (a : ℕ) (y : Member) (xs : List Member) (x : Member) (here : Bool) → (y.config.address == a) ≡ here → (if here then Some y else at_address a xs) ≡ Some x
+    → (at_address a xs ≡ Some x → x.config.address ≡ a) → x.config.address ≡ a
+found_here a y xs x true e h rest = ap (λ (z : Member). z.config.address) (sym (some_same y x h)) ∙ eqb-true y.config.address a e
+found_here a y xs x false e h rest = rest h
+
+found_address : (a : ℕ) (xs : List Member) (x : Member) → at_address a xs ≡ Some x → x.config.address ≡ a
+found_address a [] x h = absurd (none_some x h)
+found_address a (y ∷ xs) x h = found_here a y xs x (y.config.address == a) refl h (found_address a xs x)
+
+both_false : (a b : Bool) → a ≡ false → b ≡ false → (a || b) ≡ false
+both_false a b e f = rw (e, f) refl
+
+or_true : (a b : Bool) → b ≡ true → (a || b) ≡ true
+or_true true b h = refl
+or_true false b h = h
+
+-- a message to a node's address misses the others
+misses : (a : ℕ) (c : NodeConfig) → a < 0x8000 → (a ≢ c.address) → (c.group ≡ 0) ⊎ (0xC000 ≤ c.group) → Misses a c
+misses a c unicast other group =
+    both_false (a == c.address) (not (c.group == 0) && (a == c.group)) (differs a c.address other) (no_group group)
+  where
+  differs : (a b : ℕ) → a ≢ b → (a == b) ≡ false
+  differs a b h = grind (arith, nat_tests, h)
+  no_group : (c.group ≡ 0) ⊎ (0xC000 ≤ c.group) → (not (c.group == 0) && (a == c.group)) ≡ false
+  no_group (inl e) = ap (λ z. not z && (a == c.group)) (eq-eqb c.group 0 e)
+  no_group (inr h) = and_false (not (c.group == 0)) (a == c.group) (grind (arith, nat_tests, h, unicast))
+    where
+    and_false : (x y : Bool) → y ≡ false → (x && y) ≡ false
+    and_false true y e = e
+    and_false false y e = refl
+
+module _ (plan : Plan) (image : List ℕ) (members : List Member) where
+  abbrev Takes_ : ℕ → Type 0
+  Takes_ a = Takes plan members a
+
+  abbrev pair_of : (a : ℕ) → Takes_ a → Pair
+  pair_of a t = record { r = new_active (a, 0); config = t.config; moment = t.moment; n = t.state }
+
+  pairs : (to : List ℕ) → AllByRecursion Takes_ to → List Pair
+  pairs [] h = []
+  pairs (a ∷ to) h = pair_of a h.0 ∷ pairs to h.1
+
+  address_is : (a : ℕ) (t : Takes_ a) → t.config.address ≡ a
+  address_is a t = found_address a members _ t.found
+
+  all_here : (to : List ℕ) (h : AllByRecursion Takes_ to) → AllByRecursion (IsHere members) (pairs to h)
+  unfolding pairs
+  all_here [] h = tt
+  all_here (a ∷ to) h = (record { node = ap (λ z. at_address z members) (address_is a h.0) ∙ h.0.found; receiver = sym (address_is a h.0) }, all_here to h.1)
+
+  receivers_are : (to : List ℕ) (h : AllByRecursion Takes_ to) → map new_active (map (λ a. (a, 0)) to) ≡ map receiver_in (pairs to h)
+  unfolding pairs
+  receivers_are [] h = refl
+  receivers_are (a ∷ to) h = ap (λ rs. new_active (a, 0) ∷ rs) (receivers_are to h.1)
+
+  pairs_length : (to : List ℕ) (h : AllByRecursion Takes_ to) → length (configs (pairs to h)) ≡ length to
+  unfolding pairs
+  pairs_length [] h = refl
+  pairs_length (a ∷ to) h = ap suc (pairs_length to h.1)
+
+  -- ---- apart
+
+  apart_from : (a : ℕ) (t : Takes_ a) (to : List ℕ) (h : AllByRecursion Takes_ to) → AllByRecursion (λ b. a ≢ b) to
+      → AllByRecursion (λ (e : NodeConfig). Misses t.config.address e × Misses e.address t.config) (configs (pairs to h))
+  unfolding pairs
+  apart_from a t [] h k = tt
+  apart_from a t (b ∷ to) h k =
+      let here : t.config.address ≡ a = address_is a t in
+      let there : h.0.config.address ≡ b = address_is b h.0 in
+      ((subst (λ z. Misses z h.0.config) (sym here) (misses a h.0.config t.unicast (λ e. k.0 (e ∙ there)) h.0.some_group),
+        subst (λ z. Misses z t.config) (sym there) (misses b t.config h.0.unicast (λ e. k.0 (sym (e ∙ here))) t.some_group)),
+      apart_from a t to h.1 k.1)
+
+  all_apart : (to : List ℕ) (h : AllByRecursion Takes_ to) → NoneTwice to → Apart (configs (pairs to h))
+  unfolding pairs
+  all_apart [] h k = tt
+  all_apart (a ∷ to) h k = (apart_from a h.0 to h.1 k.0, all_apart to h.1 k.1)
+
+  -- ---- reached
+
+  group_reaches : (c : NodeConfig) → plan.sending.group ≢ 0 → c.group ≡ plan.sending.group → Reaches plan.sending.group c
+  group_reaches c some e =
+      or_true (plan.sending.group == c.address) (not (c.group == 0) && (plan.sending.group == c.group))
+      (ap (λ z. not (z == 0) && (plan.sending.group == z)) e ∙ (ap (λ z. not z && (plan.sending.group == plan.sending.group)) (no_zero plan.sending.group some) ∙ eq-eqb plan.sending.group plan.sending.group refl))
+    where
+    no_zero : (g : ℕ) → g ≢ 0 → (g == 0) ≡ false
+    no_zero g h = grind (arith, nat_tests, h)
+
+  all_reached : plan.sending.group ≢ 0 → (to : List ℕ) (h : AllByRecursion Takes_ to) → AllByRecursion (Reaches plan.sending.group) (configs (pairs to h))
+  unfolding pairs
+  all_reached some [] h = tt
+  all_reached some (a ∷ to) h = (group_reaches h.0.config some (its_group h.0.in_group), all_reached some to h.1)
+    where
+    its_group : (plan.sending.group ≡ 0) ⊎ (h.0.config.group ≡ plan.sending.group) → h.0.config.group ≡ plan.sending.group
+    its_group (inl e) = absurd (some e)
+    its_group (inr e) = e
