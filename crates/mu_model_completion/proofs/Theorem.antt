@@ -17,8 +17,8 @@ use Rattle.mu_model_client.specs.declared.Sending.{Sending}
 use Rattle.mu_model_client.specs.declared.Plan.{Plan}
 use Rattle.mu_model_client.specs.Rows.{Row as ShownRow}
 use Rattle.mu_model_client.specs.Sets.{below}
-use Rattle.mu_model_client.specs.Client.{Client, Receiver, row_of, rows, Item, Sends, Place, Before, Check, block_total, chunk_total, full_chunks}
-use Rattle.mu_model_client.specs.Begin.{start, new_active, purpose_of}
+use Rattle.mu_model_client.specs.Client.{Client, Receiver, row_of, rows, Update, Item, Sends, Place, Before, Check, block_total, chunk_total, full_chunks}
+use Rattle.mu_model_client.specs.Begin.{start, at_first, new_active, purpose_of}
 use Rattle.mu_model_client.specs.Lists as l
 use Rattle.mu_model_client.specs.Lists.{chunk_items, missing_of, lacking}
 use Rattle.mu_model_client_laws.specs.Laws.{KeepsPlan, FieldsAreRead}
@@ -227,3 +227,131 @@ module _ (plan : Plan) (image : List ℕ) (members : List Member) where
     its_group : (plan.sending.group ≡ 0) ⊎ (h.0.config.group ≡ plan.sending.group) → h.0.config.group ≡ plan.sending.group
     its_group (inl e) = absurd (some e)
     its_group (inr e) = e
+
+-- ---- the law
+
+module _ (laws : KeepsPlan) (fields : FieldsAreRead) (tiles : Tiles) (read : MetaIsReadBack) (tested : FitIsTested) (plan : Plan) (image : List ℕ) (to : List ℕ) (members : List Member)
+    (from : CanBegin plan image to members) (push : plan.sending.mode ≡ 1) where
+  abbrev p : Sending
+  p = plan.sending
+
+  abbrev meta : Meta
+  meta = plan.meta
+
+  abbrev config : NodeConfig
+  config = from.config
+
+  size_some : 0 < p.size
+  size_some = let s = from.update.meta.some in let e = from.update.size in omega (arith, s, e)
+
+  chunk_some : 0 < p.chunk
+  chunk_some = let c = from.update.chunk_least in omega (arith, c)
+
+  whole : length image ≡ p.size
+  whole = from.update.fit.size ∙ sym from.update.size
+
+  total_some : 0 < block_total p
+  total_some = (tiles.blocks_within p.size p.log 0).1 (let s = size_some in omega (arith, s))
+
+  abbrev blocks : ℕ
+  blocks = block_total p - 1
+
+  total_is : block_total p ≡ suc blocks
+  total_is = let s = total_some in omega (arith, s)
+
+  good : Good p blocks
+  good = record {
+    push = eq-eqb p.mode 1 push;
+    no_pull = (let e = push in grind (arith, nat_tests, e));
+    long = both_false (nat_lt 376 p.chunk) (nat_lt 2048 (full_chunks p)) (let c = from.update.chunk_most in grind (arith, nat_tests, c)) (let f = full_few p from.update.log_most from.update.chunk_least in grind (arith, nat_tests, f));
+    total = total_is;
+  }
+
+  abbrev q : ℕ
+  q = sixteens (length to)
+
+  few : 3 * q < 99
+  few = let f = from.few in omega (arith, f)
+
+  ps : List Pair
+  ps = pairs plan image members to from.takes
+
+  abbrev cs : List NodeConfig
+  cs = configs (pairs plan image members to from.takes)
+
+  long : length cs ≡ length to
+  long = pairs_length plan image members to from.takes
+
+  some : 1 ≤ length cs
+  some = let l = long in let s = from.some in omega (arith, l, s)
+
+  fits : length cs ≤ 16 * q
+  fits = let l = long in omega (arith, l)
+
+  q_some : 1 ≤ q
+  q_some = let s = from.some in omega (arith, s)
+
+  apart : Apart cs
+  apart = all_apart plan image members to from.takes from.none_twice
+
+  -- sixteens of chunks, less one
+  abbrev mc : ℕ
+  mc = sixteens (chunk_total p 0) - 1
+
+  counts : (b : ℕ) → b < suc blocks → (c : ℕ) × (chunk_total p b ≡ suc c) × (suc c ≤ 16 * suc mc)
+  counts b lt =
+      let t = total_is in
+      let s = some_chunk tiles p chunk_some b (omega (arith, lt, t)) in
+      let n = no_more tiles p chunk_some b in
+      (chunk_total p b - 1, omega (arith, s), omega (arith, s, n))
+
+  -- ---- the first station
+
+  offer : (a : ℕ) (t : Takes plan members a) → Offer p meta image t.state.durable.capacity t.active
+  offer a t = record {
+    metadata = read meta from.update.meta;
+    size = from.update.size;
+    fit = (tested image meta).1 from.update.fit;
+    room = (let r = t.room in grind (arith, nat_tests, r));
+    newer = (let o = t.older in grind (arith, nat_tests, o));
+    log = both_false (nat_lt p.log 12) (nat_lt 14 p.log) (let l = from.update.log_least in grind (arith, nat_tests, l)) (let l = from.update.log_most in grind (arith, nat_tests, l));
+    chunk = both_false (nat_lt p.chunk 8) (nat_lt 376 p.chunk) (let l = from.update.chunk_least in grind (arith, nat_tests, l)) (let l = from.update.chunk_most in grind (arith, nat_tests, l));
+  }
+
+  abbrev First_ : Pair → Type 0
+  First_ x = First laws fields tiles p meta config image blocks good whole chunk_some cs apart some q few fits q_some x
+
+  first_pair : (a : ℕ) (t : Takes plan members a) → First_ (record { r = new_active (a, 0); config = t.config; moment = t.moment; n = t.state })
+  first_pair a t = (
+    record { r_is = ap (λ z. rcv z 10 [] [] false) (sym (address_is plan image members a t)) },
+    record {
+      capacity = t.state.durable.capacity; active = t.active; images = t.others; offer = offer a t; count = t.state.durable.count; fresh = t.state.fresh; session = t.state.session;
+      m = t.state.moment; early = t.handed;
+      n_is =
+          ap (λ job. record { durable = record { count = t.state.durable.count; capacity = t.state.durable.capacity; images = t.state.durable.images; job = job }; fresh = t.state.fresh; session = t.state.session; moment = t.state.moment }) t.idle
+          ∙ ap (λ images. record { durable = record { count = t.state.durable.count; capacity = t.state.durable.capacity; images = images; job = None }; fresh = t.state.fresh; session = t.state.session; moment = t.state.moment }) t.images;
+    })
+
+  all_first : (as_ : List ℕ) (h : AllByRecursion (Takes plan members) as_) → AllByRecursion First_ (pairs plan image members as_ h)
+  unfolding pairs
+  all_first [] h = tt
+  all_first (a ∷ rest) h = (first_pair a h.0, all_first rest h.1)
+
+  first_station : Reached laws fields tiles p meta config image blocks good whole chunk_some cs apart some q few fits q_some (Before Check) First_ members
+  first_station = record {
+    qs = pairs plan image members to from.takes;
+    station = record {
+      now = from.moment; began = 0; moment = 0; early = omega arith;
+      holds = record {
+        updater = from.updater ∙ ap (λ (c : Client). Some (record { config = config; moment = from.moment; part = IsUpdater c image })) first_client;
+        distinct = from.distinct; quiet = from.quiet; here = all_here plan image members to from.takes; receivers = refl;
+      };
+    };
+    all = all_first to from.takes;
+    same = refl;
+  }
+    where
+    first_client : start plan (map (λ a. (a, 0)) to) ≡ client_at laws p meta config image (Before Check) [] 0 0 (map receiver_in (pairs plan image members to from.takes))
+    first_client =
+        ap (λ rs. at_first p (purpose_of plan) rs (Before Check)) (receivers_are plan image members to from.takes)
+        ∙ ap (λ apply. at_first p (Update meta apply) (map receiver_in (pairs plan image members to from.takes)) (Before Check)) from.update.apply
