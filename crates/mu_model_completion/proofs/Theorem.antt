@@ -19,10 +19,11 @@ use Rattle.mu_model_client.specs.Rows.{Row as ShownRow}
 use Rattle.mu_model_client.specs.Sets.{below}
 use Rattle.mu_model_client.specs.Client.{Client, Receiver, row_of, rows, Update, Item, Sends, Place, Before, Check, block_total, chunk_total, full_chunks}
 use Rattle.mu_model_client.specs.Begin.{start, at_first, new_active, purpose_of}
+use Rattle.mu_model_client.specs.Told.{held_percent}
 use Rattle.mu_model_client.specs.Lists as l
 use Rattle.mu_model_client.specs.Lists.{chunk_items, missing_of, lacking}
 use Rattle.mu_model_client_laws.specs.Laws.{KeepsPlan, FieldsAreRead}
-use Rattle.mu_model_completion.specs.Turn.{Member, Part, IsNode, IsUpdater, settle}
+use Rattle.mu_model_completion.specs.Turn.{Member, Part, IsNode, IsUpdater, turn, settle}
 use Rattle.mu_model_completion.specs.Completion.{at_address, Distinct, AllQuiet, rows_at, rows_in, IsUpdate, Takes, NoneTwice, CanBegin, sixteens, push_turns, succeeded, PushCompletes}
 use Rattle.mu_model_completion.proofs.Pairs.{Pair, receiver_in, node_in, Holds, IsHere}
 use Rattle.mu_model_completion.proofs.Nodes.{Offer, idle}
@@ -34,7 +35,7 @@ use Rattle.mu_model_completion.proofs.Pieces.{lacking_from, all_are_held, fewer_
 use Rattle.mu_model_completion.proofs.Blocks.{Tiles}
 use Rattle.mu_model_completion.proofs.Sixteens.{Reaches}
 use Rattle.mu_model_completion.proofs.Course.{Reached, First}
-use Rattle.mu_model_completion.proofs.End.{SomeOver, Over, course, some_always, turns_in_all}
+use Rattle.mu_model_completion.proofs.End.{Final, SomeOver, Over, course, some_always, turns_in_all}
 
 -- ---- the lists of chunks
 
@@ -355,3 +356,78 @@ module _ (laws : KeepsPlan) (fields : FieldsAreRead) (tiles : Tiles) (read : Met
     first_client =
         ap (λ rs. at_first p (purpose_of plan) rs (Before Check)) (receivers_are plan image members to from.takes)
         ∙ ap (λ apply. at_first p (Update meta apply) (map receiver_in (pairs plan image members to from.takes)) (Before Check)) from.update.apply
+
+  -- ---- the rows at the end
+
+  configs_address : (as_ : List ℕ) (h : AllByRecursion (Takes plan members) as_) → map (λ (c : NodeConfig). c.address) (configs (pairs plan image members as_ h)) ≡ as_
+  unfolding pairs
+  configs_address [] h = refl
+  configs_address (a ∷ rest) h = cons_same (address_is plan image members a h.0) (configs_address rest h.1)
+    where
+    cons_same : {x y : ℕ} {xs ys : List ℕ} → x ≡ y → xs ≡ ys → (x ∷ xs) ≡ (y ∷ ys)
+    cons_same e f = rw (e, f) refl
+
+  percent : (n : ℕ) → held_percent (lacking_from (suc n) 0) ≡ 100
+  percent n = ap held_percent (all_are_held (suc n)) ∙ all_held (suc n) (omega arith)
+
+  module _ (target : ℕ) (reached : AllByRecursion (Reaches target) cs)
+      (lists : (b c : ℕ) → chunk_total p b ≡ suc c → (bs : List Bool) (qs : List Pair) → AllByRecursion (Row 2 bs (every_number (suc c)) true) qs → configs qs ≡ cs
+          → chunk_items p b missing_of (map receiver_in qs) ≡ map (λ i. Sends target b i) (range_with_len 0 (suc c))) where
+    abbrev IsOver : List Member → Type 0
+    IsOver xs = SomeOver laws fields tiles p meta config image blocks good whole chunk_some cs apart some q few fits q_some target mc reached counts lists xs
+
+    abbrev Final_ : ℕ → Pair → Type 0
+    Final_ c x = Final laws fields tiles p meta config image blocks good whole chunk_some cs apart some q few fits q_some target mc reached counts lists c x
+
+    row_is : (c : ℕ) (x : Pair) → Final_ c x → row_of x.r ≡ succeeded x.config.address
+    row_is c x h =
+        ap row_of h.0.r_is
+        ∙ ap (λ progress. record { address = x.config.address; index = 0; phase = 8; update_status = 0; transfer_status = 0; progress = progress }) (percent blocks)
+
+    rows_are : (c : ℕ) (qs : List Pair) → AllByRecursion (Final_ c) qs → map row_of (map receiver_in qs) ≡ map succeeded (map (λ (e : NodeConfig). e.address) (configs qs))
+    rows_are c [] h = refl
+    rows_are c (x ∷ qs) h = cons_same (row_is c x h.0) (rows_are c qs h.1)
+      where
+      cons_same : {x y : ShownRow} {xs ys : List ShownRow} → x ≡ y → xs ≡ ys → (x ∷ xs) ≡ (y ∷ ys)
+      cons_same e f = rw (e, f) refl
+
+    over_rows : (xs : List Member) → IsOver xs → rows_at config.address xs ≡ Some (map succeeded to)
+    over_rows xs o =
+        let v = o.over in
+        ap rows_in v.station.holds.updater
+        ∙ ap Some (rows_are o.c v.qs v.all ∙ ap (map succeeded) (ap (λ es. map (λ (e : NodeConfig). e.address) es) v.same ∙ configs_address to from.takes))
+
+    in_all : turns_in_all laws fields tiles p meta config image blocks good whole chunk_some cs apart some q few fits q_some target mc reached counts lists ≤ push_turns p (length to)
+    in_all =
+        let chunks : suc mc ≡ sixteens (chunk_total p 0) = (let t = total_is in let s = some_chunk tiles p chunk_some 0 (omega (arith, t)) in omega (arith, s)) in
+        let block : q + (suc mc + q) ≡ 2 * q + sixteens (chunk_total p 0) = omega (arith, chunks) in
+        let blocks_in : suc blocks * (q + (suc mc + q)) ≡ block_total p * (2 * q + sixteens (chunk_total p 0)) = ap (λ n. n * (q + (suc mc + q))) (sym total_is) ∙ ap (λ n. block_total p * n) block in
+        omega (arith, blocks_in)
+
+    settle_more : (m n : ℕ) (xs : List Member) → settle n (settle m xs) ≡ settle (m + n) xs
+    settle_more zero n xs = let e : 0 + n ≡ n = omega arith in ap (λ k. settle k xs) (sym e)
+    settle_more (suc m) n xs = let e : suc m + n ≡ suc (m + n) = omega arith in settle_more m n (turn xs) ∙ ap (λ k. settle k xs) (sym e)
+
+    completes : (n : ℕ) → push_turns p (length to) ≤ n → rows_at config.address (settle n members) ≡ Some (map succeeded to)
+    completes n le =
+        let w = course laws fields tiles p meta config image blocks good whole chunk_some cs apart some q few fits q_some target mc reached counts lists members first_station in
+        let short = w.few in
+        let bound = in_all in
+        let rest : ℕ = n - w.turns in
+        let e : w.turns + rest ≡ n = omega (arith, short, bound, le) in
+        let later = some_always laws fields tiles p meta config image blocks good whole chunk_some cs apart some q few fits q_some target mc reached counts lists rest (settle w.turns members) w.then_is in
+        over_rows (settle n members) (subst (λ k. IsOver (settle k members)) e (subst IsOver (settle_more w.turns rest members) later))
+
+  -- ---- to a group, or to one receiver
+
+  by_group : plan.sending.group ≢ 0 → (n : ℕ) → push_turns p (length to) ≤ n → rows_at config.address (settle n members) ≡ Some (map succeeded to)
+  by_group g n le =
+      completes plan.sending.group (all_reached plan image members g to from.takes)
+      (λ b c total bs qs rows same. group_lists p (no_zero plan.sending.group g) b c total bs qs rows
+        (let l = ap (length {A = NodeConfig}) same in let k = configs_long qs in let s = some in omega (arith, l, k, s))) n le
+    where
+    no_zero : (g : ℕ) → g ≢ 0 → (g == 0) ≡ false
+    no_zero g h = grind (arith, nat_tests, h)
+    configs_long : (qs : List Pair) → length (configs qs) ≡ length qs
+    configs_long [] = refl
+    configs_long (x ∷ qs) = ap suc (configs_long qs)
