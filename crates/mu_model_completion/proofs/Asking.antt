@@ -1,22 +1,22 @@
 -- A step in which each receiver is asked once: it takes as many turns as there are sixteens of receivers, rounded up.
-use Rattle.std.proofs.Common.{◌≡◌, ◌⊎◌, inl, inr, ◌<◌, ◌≤◌, ◌+◌, ◌*◌, ◌==◌, ℕ, zero, suc, List, [], ◌∷◌, ◌++◌, refl, sym, ap, ◌∙◌, subst, true, false, Bool, Option, Some, None, arith, map, max, length, take, drop, length-drop}
-use Rattle.std.specs.Prelude.{◌&&◌, ◌||◌, not, if◌then◌else◌}
-use Rattle.std.specs.List.{list_any, flat_map, AllByRecursion}
-use Rattle.std.proofs.lemmas.Bool.{eq-eqb, eqb-true}
+use Rattle.std.proofs.Common.{◌≡◌, ◌⊎◌, inl, inr, ◌<◌, ◌≤◌, ◌+◌, ◌*◌, ◌==◌, ℕ, zero, suc, List, [], ◌∷◌, ◌++◌, refl, sym, ap, ◌∙◌, subst, true, false, Bool, Option, Some, None, arith, map, length, take, drop, length-drop}
+use Rattle.std.specs.Prelude.{◌&&◌, ◌||◌, not}
+use Rattle.std.specs.List.{list_any, AllByRecursion}
+use Rattle.std.proofs.lemmas.Bool.{eq-eqb}
 use Rattle.mu_model_image.specs.declared.Meta.{Meta}
 use Rattle.mu_model_node.specs.declared.NodeConfig.{NodeConfig}
 use Rattle.mu_model_node.specs.NodeMessages.{Request}
 use Rattle.mu_model_node.specs.Events.{at_moment, on_request}
 use Rattle.mu_model_client.specs.declared.Sending.{Sending}
-use Rattle.mu_model_client.specs.Client.{Client, Receiver, Item, Says, Sends, Purpose, Update, Place, Before, At, Step, is_pending}
+use Rattle.mu_model_client.specs.Client.{Client, Receiver, Item, Says, Sends, Update, Place, At, Step, is_pending}
 use Rattle.mu_model_client.specs.Lists as l
 use Rattle.mu_model_client.specs.Lists.{messages, step_message, sent_for}
 use Rattle.mu_model_client.specs.Due as d
 use Rattle.mu_model_client_laws.specs.Laws.{KeepsPlan}
-use Rattle.mu_model_completion.specs.Turn.{Member, Sent, Body, Asks, asked_by, is_for, turn, settle}
-use Rattle.mu_model_completion.proofs.Pairs.{Pair, receiver_in, node_in, answered_by, pair_if, pair_item, pair_items, pair_time, items_config}
+use Rattle.mu_model_completion.specs.Turn.{Member, asked_by, turn}
+use Rattle.mu_model_completion.proofs.Pairs.{Pair, receiver_in, answered_by, pair_if, pair_item, pair_items, pair_time, items_config}
 use Rattle.mu_model_completion.proofs.Receivers.{view}
-use Rattle.mu_model_completion.proofs.Stations.{Within, at_once, by_turn, client_at, Station, sent_all, turn_in, turn_rest, begins, first_items, begun_pairs, turn_next}
+use Rattle.mu_model_completion.proofs.Stations.{Within, at_once, by_turn, client_at, Station, sent_all, turn_in, turn_rest, begins, first_items, turn_next}
 
 -- ---- who is reached
 
@@ -76,8 +76,8 @@ module _ (laws : KeepsPlan) (p : Sending) (meta : Meta) (config : NodeConfig) (i
   all_configs items [] = refl
   all_configs items (x ∷ ps) = cons_same (items_config (view p meta step) u (sent_all laws p meta config image items) x) (all_configs items ps)
     where
-    cons_same : {x y : NodeConfig} {xs ys : List NodeConfig} → x ≡ y → xs ≡ ys → (x ∷ xs) ≡ (y ∷ ys)
-    cons_same e f = rw (e, f) refl
+      cons_same : {x y : NodeConfig} {xs ys : List NodeConfig} → x ≡ y → xs ≡ ys → (x ∷ xs) ≡ (y ∷ ys)
+      cons_same e f = rw (e, f) refl
 
   pub time_configs : (ps : List Pair) → configs (map (pair_time (view p meta step) u) ps) ≡ configs ps
   time_configs [] = refl
@@ -114,9 +114,9 @@ module _ (laws : KeepsPlan) (p : Sending) (meta : Meta) (config : NodeConfig) (i
         → AllByRecursion (λ (i : Item). Misses (is_to i) c) (says ps)
     says_miss j c [] h k = tt
     says_miss j c (x ∷ ps) h k = elim h.0 [
-        | inl w ↦ subst (λ items. AllByRecursion (λ (i : Item). Misses (is_to i) c) items) (sym (says_waiting j x ps w)) (k.0, says_miss j c ps h.1 k.1)
-        | inr e ↦ subst (λ items. AllByRecursion (λ (i : Item). Misses (is_to i) c) items) (sym (says_done j x ps e)) (says_miss j c ps h.1 k.1)
-      ]
+      | inl w ↦ subst (λ items. AllByRecursion (λ (i : Item). Misses (is_to i) c) items) (sym (says_waiting j x ps w)) (k.0, says_miss j c ps h.1 k.1)
+      | inr e ↦ subst (λ items. AllByRecursion (λ (i : Item). Misses (is_to i) c) items) (sym (says_done j x ps e)) (says_miss j c ps h.1 k.1)
+    ]
 
     second : (c : NodeConfig) (cs : List NodeConfig) → AllByRecursion (λ (e : NodeConfig). Misses c.address e × Misses e.address c) cs → AllByRecursion (λ (e : NodeConfig). Misses e.address c) cs
     second c [] h = tt
@@ -129,8 +129,8 @@ module _ (laws : KeepsPlan) (p : Sending) (meta : Meta) (config : NodeConfig) (i
     others_same c items (y ∷ ps) h =
         cons_same (ap (λ b. items_at items (pair_if (view p meta step) u (asked_by u (c.address, request)) y b)) h.0.0) (others_same c items ps h.1)
       where
-      cons_same : {x y : Pair} {xs ys : List Pair} → x ≡ y → xs ≡ ys → (x ∷ xs) ≡ (y ∷ ys)
-      cons_same e f = rw (e, f) refl
+        cons_same : {x y : Pair} {xs ys : List Pair} → x ≡ y → xs ≡ ys → (x ∷ xs) ≡ (y ∷ ys)
+        cons_same e f = rw (e, f) refl
 
     -- ---- so many are asked
 
@@ -159,8 +159,8 @@ module _ (laws : KeepsPlan) (p : Sending) (meta : Meta) (config : NodeConfig) (i
           let later : Pair = items_at (take k (says ps)) next in
           let stays : next.config ≡ x.config = items_config (view p meta step) u (asked_by u (x.config.address, request) ∷ []) x in
           let missed : AllByRecursion (λ (i : Item). Misses (is_to i) next.config) (take k (says ps)) =
-              subst (λ c. AllByRecursion (λ (i : Item). Misses (is_to i) c) (take k (says ps))) (sym stays)
-              (all_take (λ (i : Item). Misses (is_to i) x.config) k (says ps) (says_miss (suc j) x.config ps h (second x.config (configs ps) apart.0))) in
+          subst (λ c. AllByRecursion (λ (i : Item). Misses (is_to i) c) (take k (says ps))) (sym stays)
+          (all_take (λ (i : Item). Misses (is_to i) x.config) k (says ps) (says_miss (suc j) x.config ps h (second x.config (configs ps) apart.0))) in
           let as_next : later ≡ next = unaffected (take k (says ps)) next missed in
           let d_next : D (suc j) later = subst (D (suc j)) (sym as_next) (asks_first j x w) in
           let r = rest k in
@@ -183,10 +183,10 @@ module _ (laws : KeepsPlan) (p : Sending) (meta : Meta) (config : NodeConfig) (i
     many j [] zero h apart = record { all = tt; rest = refl }
     many j [] (suc k) h apart = record { all = tt; rest = refl }
     many j (x ∷ ps) k h apart = elim h.0 [
-        | inl w ↦ subst (λ list. AfterAsked (suc j) list k (x ∷ ps)) (sym (says_waiting (suc j) x ps w)) (first_waits j x ps w (λ i. many j ps i h.1 apart.1) h.1 apart k)
-        | inr e ↦ subst (λ list. AfterAsked (suc j) list k (x ∷ ps)) (sym (says_done (suc j) x ps e))
-            (first_done j x ps k e (many j ps k h.1 apart.1) (says_miss (suc j) x.config ps h.1 (second x.config (configs ps) apart.0)))
-      ]
+      | inl w ↦ subst (λ list. AfterAsked (suc j) list k (x ∷ ps)) (sym (says_waiting (suc j) x ps w)) (first_waits j x ps w (λ i. many j ps i h.1 apart.1) h.1 apart k)
+      | inr e ↦ subst (λ list. AfterAsked (suc j) list k (x ∷ ps)) (sym (says_done (suc j) x ps e))
+          (first_done j x ps k e (many j ps k h.1 apart.1) (says_miss (suc j) x.config ps h.1 (second x.config (configs ps) apart.0)))
+    ]
 
     -- ---- a turn
 
@@ -200,8 +200,8 @@ module _ (laws : KeepsPlan) (p : Sending) (meta : Meta) (config : NodeConfig) (i
           | inr e ↦ (let t = a.time_done j x lt e in ((inr t.0, rest.0), cons_same t.1 rest.1))
         ]
       where
-      cons_same : {x y : Receiver} {xs ys : List Receiver} → x ≡ y → xs ≡ ys → (x ∷ xs) ≡ (y ∷ ys)
-      cons_same e f = rw (e, f) refl
+        cons_same : {x y : Receiver} {xs ys : List Receiver} → x ≡ y → xs ≡ ys → (x ∷ xs) ≡ (y ∷ ys)
+        cons_same e f = rw (e, f) refl
 
     fused : (items : List Item) (ps : List Pair) → map (turn_in laws p meta config image step items) ps ≡ map (items_at items) (map (pair_time (view p meta step) u) ps)
     fused items [] = refl
@@ -220,7 +220,7 @@ module _ (laws : KeepsPlan) (p : Sending) (meta : Meta) (config : NodeConfig) (i
         let says_same : says ts ≡ says ps = ap (messages (step_message p (Update meta true) step)) t.1 in
         let m = many j ts 16 t.0 (subst Apart (sym (time_configs ps)) apart) in
         let here : map (turn_in laws p meta config image step (take 16 (says ps))) ps ≡ map (items_at (take 16 (says ts))) ts =
-            fused (take 16 (says ps)) ps ∙ ap (λ items. map (items_at (take 16 items)) ts) (sym says_same) in
+        fused (take 16 (says ps)) ps ∙ ap (λ items. map (items_at (take 16 items)) ts) (sym says_same) in
         subst (AfterTurn (suc j) (drop 16 (says ps)) ps) (sym here) (record {
           all = m.all;
           rest = m.rest ∙ ap (drop 16) says_same;
@@ -240,22 +240,22 @@ module _ (laws : KeepsPlan) (p : Sending) (meta : Meta) (config : NodeConfig) (i
     nobody_waits : (j : ℕ) (ps : List Pair) → AllByRecursion (Is j) ps → says ps ≡ [] → AllByRecursion (D j) ps
     nobody_waits j [] h e = tt
     nobody_waits j (x ∷ ps) h e = elim h.0 [
-        | inl w ↦ absurd (some_none (sym (says_waiting j x ps w) ∙ e))
-        | inr k ↦ (k, nobody_waits j ps h.1 (sym (says_done j x ps k) ∙ e))
-      ]
+      | inl w ↦ absurd (some_none (sym (says_waiting j x ps w) ∙ e))
+      | inr k ↦ (k, nobody_waits j ps h.1 (sym (says_done j x ps k) ∙ e))
+    ]
       where
-      some_none : {item : Item} {items : List Item} → (item ∷ items) ≡ [] → ⊥
-      some_none e = grind (arith, e)
+        some_none : {item : Item} {items : List Item} → (item ∷ items) ≡ [] → ⊥
+        some_none e = grind (arith, e)
 
     somebody_waits : (j : ℕ) (ps : List Pair) (item : Item) (items : List Item) → AllByRecursion (Is j) ps → says ps ≡ item ∷ items → list_any is_pending (map receiver_in ps) ≡ true
     somebody_waits j [] item items h e = absurd (none_some e)
       where
-      none_some : {item : Item} {items : List Item} → [] ≡ item ∷ items → ⊥
-      none_some e = grind (arith, e)
+        none_some : {item : Item} {items : List Item} → [] ≡ item ∷ items → ⊥
+        none_some e = grind (arith, e)
     somebody_waits j (x ∷ ps) item items h e = elim h.0 [
-        | inl w ↦ ap (λ b. b || list_any is_pending (map receiver_in ps)) (a.waits j x w)
-        | inr k ↦ ap (λ b. b || list_any is_pending (map receiver_in ps)) (a.is_done j x k) ∙ somebody_waits j ps item items h.1 (sym (says_done j x ps k) ∙ e)
-      ]
+      | inl w ↦ ap (λ b. b || list_any is_pending (map receiver_in ps)) (a.waits j x w)
+      | inr k ↦ ap (λ b. b || list_any is_pending (map receiver_in ps)) (a.is_done j x k) ∙ somebody_waits j ps item items h.1 (sym (says_done j x ps k) ∙ e)
+    ]
 
     pub finish : (m j : ℕ) (list : List Item) (ps : List Pair) (xs : List Member) → says ps ≡ list → Station laws p meta config image (At step) list ps xs → AllByRecursion (Is j) ps
         → Apart (configs ps) → length list ≤ 16 * m → j + m ≤ most → Within m (Finished ps) xs
@@ -266,22 +266,22 @@ module _ (laws : KeepsPlan) (p : Sending) (meta : Meta) (config : NodeConfig) (i
         let pending : list_any is_pending (map receiver_in ps) ≡ true = somebody_waits j ps item items h e in
         let r = round j ps (omega (arith, room)) h apart in
         let next : Station laws p meta config image (At step) (drop 16 (item ∷ items)) (map (turn_in laws p meta config image step (take 16 (item ∷ items))) ps) (turn xs) =
-            turn_rest laws p meta config image step item items ps xs s (λ began moment. a.counts (client_at laws p meta config image (At step) (item ∷ items) began moment (map receiver_in ps)) ∙ ap not pending) in
+        turn_rest laws p meta config image step item items ps xs s (λ began moment. a.counts (client_at laws p meta config image (At step) (item ∷ items) began moment (map receiver_in ps)) ∙ ap not pending) in
         let now : Station laws p meta config image (At step) (drop 16 (item ∷ items)) (map (turn_in laws p meta config image step (take 16 (says ps))) ps) (turn xs) =
-            subst (λ list. Station laws p meta config image (At step) (drop 16 (item ∷ items)) (map (turn_in laws p meta config image step (take 16 list)) ps) (turn xs)) (sym e) next in
+        subst (λ list. Station laws p meta config image (At step) (drop 16 (item ∷ items)) (map (turn_in laws p meta config image step (take 16 list)) ps) (turn xs)) (sym e) next in
         let shorter = length-drop 16 (item ∷ items) in
         let done = finish m (suc j) (drop 16 (item ∷ items)) (map (turn_in laws p meta config image step (take 16 (says ps))) ps) (turn xs) (r.rest ∙ ap (drop 16) e) now r.all
-            (subst Apart (sym r.same) apart) (omega (arith, shorter, le)) (omega (arith, room)) in
+        (subst Apart (sym r.same) apart) (omega (arith, shorter, le)) (omega (arith, room)) in
         by_turn m (Finished ps) xs (record { turns = done.turns; few = done.few; then_is = (let f = done.then_is in record { qs = f.qs; turns = f.turns; few = f.few; station = f.station; all = f.all; same = f.same ∙ r.same }) })
 
     says_few : (ps : List Pair) → length (says ps) ≤ length ps
     says_few [] = omega arith
     says_few (x ∷ ps) = (let h = says_few ps in one_more (step_message p (Update meta true) step x.r) x.r.pending h)
       where
-      one_more : (m : Option Request) (b : Bool) → length (says ps) ≤ length ps → length (l.said_if x.r m b ++ says ps) ≤ suc (length ps)
-      one_more None true h = omega (arith, h)
-      one_more (Some q) true h = omega (arith, h)
-      one_more m false h = omega (arith, h)
+        one_more : (m : Option Request) (b : Bool) → length (says ps) ≤ length ps → length (l.said_if x.r m b ++ says ps) ≤ suc (length ps)
+        one_more None true h = omega (arith, h)
+        one_more (Some q) true h = omega (arith, h)
+        one_more m false h = omega (arith, h)
 
     all_wait : (ps : List Pair) → AllByRecursion (W 0) ps → AllByRecursion (Is 0) ps
     all_wait [] h = tt
@@ -298,7 +298,7 @@ module _ (laws : KeepsPlan) (p : Sending) (meta : Meta) (config : NodeConfig) (i
     -- THE STEP, from its first turn on
     pub whole_step : (place : Place) (ps : List Pair) (xs : List Member) → Station laws p meta config image place [] ps xs
         → ((began moment : ℕ) → d.by_place (client_at laws p meta config image place [] began moment (map receiver_in ps)) image place
-            ≡ d.sends (d.in_step (client_at laws p meta config image place [] began moment (map receiver_in ps)) step) image (d.first_of (client_at laws p meta config image place [] began moment (map receiver_in ps)) step))
+        ≡ d.sends (d.in_step (client_at laws p meta config image place [] began moment (map receiver_in ps)) step) image (d.first_of (client_at laws p meta config image place [] began moment (map receiver_in ps)) step))
         → ((rs : List Receiver) → l.first_list p (Update meta true) rs step ≡ messages (step_message p (Update meta true) step) rs)
         → AllByRecursion (W 0) (map (begins laws p meta config image step) ps) → Apart (configs ps)
         → (m : ℕ) → length ps ≤ 16 * m → 1 ≤ m → m ≤ most → Within m (Finished ps) xs
@@ -307,16 +307,17 @@ module _ (laws : KeepsPlan) (p : Sending) (meta : Meta) (config : NodeConfig) (i
         let bs : List Pair = map (begins laws p meta config image step) ps in
         let list : first_items laws p meta config image step bs ≡ says bs = first (map receiver_in bs) in
         let next : Station laws p meta config image (At step) (drop 16 (says bs)) (map (turn_in laws p meta config image step (take 16 (says bs))) bs) (turn xs) =
-            subst (λ items. Station laws p meta config image (At step) (drop 16 items) (map (turn_in laws p meta config image step (take 16 items)) bs) (turn xs)) list
-                (turn_next laws p meta config image place ps xs s step leads) in
+        subst (λ items. Station laws p meta config image (At step) (drop 16 items) (map (turn_in laws p meta config image step (take 16 items)) bs) (turn xs)) list
+        (turn_next laws p meta config image place ps xs s step leads) in
         let apart_b : Apart (configs bs) = subst Apart (sym (begun_configs ps)) apart in
         let r = round 0 bs (omega (arith, few)) (all_wait bs h) apart_b in
         let long = begun_length ps in
         let short = says_few bs in
         let rest = length-drop 16 (says bs) in
         let done = finish m 1 (drop 16 (says bs)) (map (turn_in laws p meta config image step (take 16 (says bs))) bs) (turn xs) r.rest next r.all
-            (subst Apart (sym r.same) apart_b) (omega (arith, long, short, rest, le)) (omega (arith, few)) in
+        (subst Apart (sym r.same) apart_b) (omega (arith, long, short, rest, le)) (omega (arith, few)) in
         by_turn m (Finished ps) xs (record {
-          turns = done.turns; few = done.few;
+          turns = done.turns;
+          few = done.few;
           then_is = (let f = done.then_is in record { qs = f.qs; turns = f.turns; few = f.few; station = f.station; all = f.all; same = f.same ∙ (r.same ∙ begun_configs ps) });
         })

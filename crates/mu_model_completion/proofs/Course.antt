@@ -1,28 +1,23 @@
 -- The course of an update in push, from step to step.
-use Rattle.std.proofs.Common.{◌≡◌, ◌⊎◌, inl, inr, ◌<◌, ◌≤◌, ◌+◌, ◌-◌, ◌*◌, ◌==◌, ℕ, zero, suc, List, [], ◌∷◌, ◌++◌, refl, sym, ap, ◌∙◌, subst, true, false, Bool, Option, Some, None, arith, map, max, min, length, take, drop, append-nil}
-use Rattle.std.specs.Prelude.{◌&&◌, ◌||◌, not, if◌then◌else◌, find}
-use Rattle.std.specs.List.{list_any, flat_map, range_with_len, AllByRecursion}
+use Rattle.std.proofs.Common.{◌≡◌, ◌<◌, ◌≤◌, ◌+◌, ◌*◌, ℕ, suc, List, [], ◌∷◌, refl, sym, ap, ◌∙◌, subst, true, false, Bool, arith, map, length}
+use Rattle.std.specs.Prelude.{◌||◌, not}
+use Rattle.std.specs.List.{list_any, AllByRecursion}
 use Rattle.mu_model_image.specs.declared.Meta.{Meta}
-use Rattle.mu_model_wire.specs.Reports.{has, every_number, no_number}
 use Rattle.mu_model_node.specs.declared.NodeConfig.{NodeConfig}
-use Rattle.mu_model_node.specs.NodeMessages.{Request, OfUpdate, OfBlob}
-use Rattle.mu_model_node.specs.BlobMessages.{BlobInformationGet, BlockGet}
-use Rattle.mu_model_node.specs.UpdateMessages.{UpdateGet, UpdateApply, InformationGet}
+use Rattle.mu_model_node.specs.NodeMessages.{Request, OfBlob}
+use Rattle.mu_model_node.specs.BlobMessages.{BlobInformationGet}
 use Rattle.mu_model_client.specs.declared.Sending.{Sending}
-use Rattle.mu_model_client.specs.Sets.{has_some}
-use Rattle.mu_model_client.specs.Client.{Client, Receiver, is_active, is_pending, is_in, is_begun_for, misses_chunks, misses_block, Item, Sends, Purpose, Update, Place, Before, At, Ended, Part, Applying, Step, Check, Start, Information, Transfer, Block, Chunks, Get, Verify, Apply, Confirm, block_total, chunk_total}
+use Rattle.mu_model_client.specs.Client.{Client, Receiver, is_active, is_pending, is_in, is_begun_for, Update, Place, Before, At, Step, Check, Start, Information, Transfer}
 use Rattle.mu_model_client.specs.Lists as l
 use Rattle.mu_model_client.specs.Due as d
 use Rattle.mu_model_client.specs.Due.{Go}
 use Rattle.mu_model_client_laws.specs.Laws.{KeepsPlan, FieldsAreRead}
-use Rattle.mu_model_completion.specs.Turn.{Member, turn, settle}
+use Rattle.mu_model_completion.specs.Turn.{Member}
 use Rattle.mu_model_completion.proofs.Pairs.{Pair, receiver_in}
-use Rattle.mu_model_completion.proofs.Receivers.{rcv, none_some}
-use Rattle.mu_model_completion.proofs.Stations.{Within, at_once, by_turn, and_then, more_room, so, client_at, Station, begins, leads_on, leads_first, first_items, turn_in, turn_next, begun_pairs}
+use Rattle.mu_model_completion.proofs.Receivers.{rcv}
+use Rattle.mu_model_completion.proofs.Stations.{Within, and_then, so, client_at, Station, begins, leads_on, leads_first}
 use Rattle.mu_model_completion.proofs.Asking.{Asking, Apart, configs, Finished, whole_step}
-use Rattle.mu_model_completion.proofs.First as first
-use Rattle.mu_model_completion.proofs.First.{Good, Row, Idle, Taken, Runs, CheckW, CheckD, StartW, StartD, InformationW, InformationD, TransferW, TransferD, check_request, start_request, transfer_request, check_asking, start_asking, information_asking, transfer_asking, taken_longer, runs_longer}
-use Rattle.mu_model_completion.proofs.Pieces.{lacking_from, held_below, missed_at, none_missed, find_least, find_none}
+use Rattle.mu_model_completion.proofs.First.{Good, Row, Idle, Taken, CheckW, CheckD, StartW, StartD, InformationW, InformationD, TransferW, TransferD, check_request, start_request, transfer_request, check_asking, start_asking, information_asking, transfer_asking, taken_longer}
 use Rattle.mu_model_completion.proofs.Blocks.{Tiles}
 
 module _ (laws : KeepsPlan) (fields : FieldsAreRead) (tiles : Tiles) (p : Sending) (meta : Meta) (config : NodeConfig) (image : List ℕ) (blocks : ℕ) (good : Good p blocks)
@@ -57,7 +52,7 @@ module _ (laws : KeepsPlan) (fields : FieldsAreRead) (tiles : Tiles) (p : Sendin
   abbrev pub Leads : Place → List Pair → Step → Type 0
   Leads place ps step =
       (began moment : ℕ) → d.by_place (client_at laws p meta config image place [] began moment (map receiver_in ps)) image place
-          ≡ d.sends (d.in_step (client_at laws p meta config image place [] began moment (map receiver_in ps)) step) image (d.first_of (client_at laws p meta config image place [] began moment (map receiver_in ps)) step)
+      ≡ d.sends (d.in_step (client_at laws p meta config image place [] began moment (map receiver_in ps)) step) image (d.first_of (client_at laws p meta config image place [] began moment (map receiver_in ps)) step)
 
   -- A STEP in which each is asked once
   pub go_step : (place : Place) (P : Pair → Type 0) (step : Step) (request : Request) (W D : ℕ → Pair → Type 0) → Asking p meta u step request W D q
@@ -69,7 +64,7 @@ module _ (laws : KeepsPlan) (fields : FieldsAreRead) (tiles : Tiles) (p : Sendin
       let long = configs_length r.qs in
       let counted : length (configs r.qs) ≡ length cs = ap (length {A = NodeConfig}) r.same in
       let step_done = whole_step laws p meta config image step request W D q asking place r.qs xs r.station (leads r.qs r.all (omega (arith, long, counted, some))) list
-          (all_begin P (W 0) step begun r.qs r.all) (subst Apart (sym r.same) apart) q (omega (arith, long, counted, fits)) q_some (omega arith) in
+      (all_begin P (W 0) step begun r.qs r.all) (subst Apart (sym r.same) apart) q (omega (arith, long, counted, fits)) q_some (omega arith) in
       so q (Finished laws p meta config image step request W D q asking r.qs) (Reached (At step) (Answered D)) xs
       (λ ys f. record { qs = f.qs; station = f.station; all = all_answered D f.turns f.few f.qs f.all; same = f.same ∙ r.same }) step_done
 
@@ -116,7 +111,16 @@ module _ (laws : KeepsPlan) (fields : FieldsAreRead) (tiles : Tiles) (p : Sendin
 
   idle_at : (step : Step) (x : Pair) → Idle fields p meta image u blocks good q few x → Idle fields p meta image u blocks good q few (begins laws p meta config image step x)
   idle_at step x h = record {
-    capacity = h.capacity; active = h.active; images = h.images; offer = h.offer; count = h.count; fresh = h.fresh; session = h.session; m = h.m; early = h.early; n_is = h.n_is;
+    capacity = h.capacity;
+    active = h.active;
+    images = h.images;
+    offer = h.offer;
+    count = h.count;
+    fresh = h.fresh;
+    session = h.session;
+    m = h.m;
+    early = h.early;
+    n_is = h.n_is;
   }
 
   taken_at : (step : Step) (a : ℕ) (x : Pair) → Taken fields p meta image u blocks good q few a x → Taken fields p meta image u blocks good q few a (begins laws p meta config image step x)
@@ -165,4 +169,4 @@ module _ (laws : KeepsPlan) (fields : FieldsAreRead) (tiles : Tiles) (p : Sendin
   four xs r =
       and_then q (q + (q + q)) (Reached (At Check) CheckDone) (Reached (At Transfer) TransferDone) xs (checked xs r)
       (λ ys s. and_then q (q + q) (Reached (At Start) StartDone) (Reached (At Transfer) TransferDone) ys (started ys s)
-        (λ zs t. and_then q q (Reached (At Information) InformationDone) (Reached (At Transfer) TransferDone) zs (informed zs t) transferred))
+      (λ zs t. and_then q q (Reached (At Information) InformationDone) (Reached (At Transfer) TransferDone) zs (informed zs t) transferred))

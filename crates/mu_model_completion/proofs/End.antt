@@ -1,41 +1,39 @@
 -- The end of an update in push: verifying, applying, confirming, and all turns after it.
-use Rattle.std.proofs.Common.{◌≡◌, ◌⊎◌, inl, inr, ◌<◌, ◌≤◌, ◌+◌, ◌-◌, ◌*◌, ◌==◌, ℕ, zero, suc, List, [], ◌∷◌, ◌++◌, refl, sym, ap, ◌∙◌, subst, true, false, Bool, Option, Some, None, arith, map, max, min, length, take, drop}
-use Rattle.std.specs.Prelude.{◌&&◌, ◌||◌, not, if◌then◌else◌, find}
-use Rattle.std.specs.List.{list_any, flat_map, range_with_len, AllByRecursion}
+use Rattle.std.proofs.Common.{◌≡◌, ◌⊎◌, inl, inr, ◌<◌, ◌≤◌, ◌+◌, ◌*◌, ℕ, zero, suc, List, [], ◌∷◌, refl, ap, ◌∙◌, subst, true, false, Bool, Option, Some, arith, map, max, length}
+use Rattle.std.specs.Prelude.{◌||◌, not, if◌then◌else◌}
+use Rattle.std.specs.List.{list_any, range_with_len, AllByRecursion}
 use Rattle.mu_model_image.specs.declared.Meta.{Meta}
-use Rattle.mu_model_wire.specs.Reports.{has, every_number, no_number}
+use Rattle.mu_model_wire.specs.Reports.{every_number, no_number}
 use Rattle.mu_model_node.specs.declared.NodeConfig.{NodeConfig}
 use Rattle.mu_model_node.specs.declared.LastBlock.{LastBlock}
 use Rattle.mu_model_node.specs.NodeMessages.{OfUpdate}
 use Rattle.mu_model_node.specs.UpdateMessages.{UpdateGet, UpdateApply, InformationGet}
 use Rattle.mu_model_node.specs.Slots.{Slots, is_full, joined}
 use Rattle.mu_model_client.specs.declared.Sending.{Sending}
-use Rattle.mu_model_client.specs.Sets.{below, has_some}
-use Rattle.mu_model_client.specs.Client.{Client, Receiver, is_active, is_pending, misses_chunks, misses_block, Item, Sends, Purpose, Update, Place, Before, At, Ended, Part, Applying, Step, Check, Transfer, Chunks, Get, Verify, Apply, Confirm, block_total, chunk_total}
+use Rattle.mu_model_client.specs.Client.{Client, Receiver, is_active, misses_chunks, misses_block, Sends, Update, Place, Before, At, Ended, Applying, Step, Check, Transfer, Chunks, Get, Verify, Apply, Confirm, block_total, chunk_total}
 use Rattle.mu_model_client.specs.Lists.{chunk_items, missing_of}
 use Rattle.mu_model_client.specs.Due as d
 use Rattle.mu_model_client.specs.Due.{Due, due, Go}
 use Rattle.mu_model_client_laws.specs.Laws.{KeepsPlan, FieldsAreRead}
 use Rattle.mu_model_completion.specs.Turn.{Member, turn, settle}
-use Rattle.mu_model_completion.proofs.Pairs.{Pair, receiver_in, pair_time, Holds, turned}
-use Rattle.mu_model_completion.proofs.Receivers.{rcv, none_some, view}
-use Rattle.mu_model_completion.proofs.Stations.{Within, at_once, by_turn, and_then, more_room, so, client_at, Station, begins}
+use Rattle.mu_model_completion.proofs.Pairs.{Pair, receiver_in, pair_time, turned}
+use Rattle.mu_model_completion.proofs.Receivers.{none_some}
+use Rattle.mu_model_completion.proofs.Stations.{Within, and_then, so, client_at, Station, begins}
 use Rattle.mu_model_completion.proofs.Asking.{Apart, configs}
 use Rattle.mu_model_completion.proofs.First.{Good, Row, Runs, TransferD}
 use Rattle.mu_model_completion.proofs.Pieces.{lacking_from, none_missed, find_none, full}
 use Rattle.mu_model_completion.proofs.Blocks.{Tiles, held_of, last_of, blk, IsVerified, Sealing, image_joined}
-use Rattle.mu_model_completion.proofs.Last.{IsSealing, VerifyW, VerifyD, verify_asking, IsApplied, IsActive, Applies, ApplyW, ApplyD, apply_asking, ConfirmW, ConfirmD, confirm_asking, applies_later}
+use Rattle.mu_model_completion.proofs.Last.{VerifyW, VerifyD, verify_asking, IsActive, Applies, ApplyW, ApplyD, apply_asking, ConfirmW, ConfirmD, confirm_asking, applies_later}
 use Rattle.mu_model_completion.proofs.Sixteens.{Reaches}
-use Rattle.mu_model_completion.proofs.Course.{Reached, Answered, Leads, go_step, next_leads, row_is, row_begun, First, four, TransferDone, nobody_pending}
-use Rattle.mu_model_completion.proofs.Middle as mid
-use Rattle.mu_model_completion.proofs.Middle.{EndsBlock, AllHeld, Ended_blocks, all_blocks, first_between, reached_as}
+use Rattle.mu_model_completion.proofs.Course.{Reached, Answered, go_step, next_leads, row_is, row_begun, First, four, nobody_pending}
+use Rattle.mu_model_completion.proofs.Middle.{AllHeld, Ended_blocks, all_blocks, first_between, reached_as}
 
 module _ (laws : KeepsPlan) (fields : FieldsAreRead) (tiles : Tiles) (p : Sending) (meta : Meta) (config : NodeConfig) (image : List ℕ) (blocks : ℕ) (good : Good p blocks)
     (whole : length image ≡ p.size) (chunk_some : 0 < p.chunk) (cs : List NodeConfig) (apart : Apart cs) (some : 1 ≤ length cs) (q : ℕ) (few : 3 * q < 99) (fits : length cs ≤ 16 * q) (q_some : 1 ≤ q)
     (to mc : ℕ) (reached : AllByRecursion (Reaches to) cs)
     (counts : (b : ℕ) → b < suc blocks → (c : ℕ) × (chunk_total p b ≡ suc c) × (suc c ≤ 16 * suc mc))
     (lists : (b c : ℕ) → chunk_total p b ≡ suc c → (bs : List Bool) (ps : List Pair) → AllByRecursion (Row 2 bs (every_number (suc c)) true) ps → configs ps ≡ cs
-        → chunk_items p b missing_of (map receiver_in ps) ≡ map (λ i. Sends to b i) (range_with_len 0 (suc c))) where
+    → chunk_items p b missing_of (map receiver_in ps) ≡ map (λ i. Sends to b i) (range_with_len 0 (suc c))) where
   abbrev u : ℕ
   u = config.address
 
@@ -137,7 +135,7 @@ module _ (laws : KeepsPlan) (fields : FieldsAreRead) (tiles : Tiles) (p : Sendin
         (apply_asking fields tiles p meta image u blocks good q few whole chunk_some held last all_full all_is none chunks) (λ rs. refl)
         (λ x h. (row_begun laws fields tiles p meta config image blocks good whole chunk_some cs apart some q few fits q_some Apply 4 none chunks x h.2.0 refl, sealing_at Apply h.0 x h.2.1))
         (next_leads laws fields tiles p meta config image blocks good whole chunk_some cs apart some q few fits q_some Verify Apply (Done VD)
-            (λ x k. row_is laws fields tiles p meta config image blocks good whole chunk_some cs apart some q few fits q_some 4 none chunks false x k.2.0) (λ z. refl) (λ rs. refl) (λ ps h le. refl)) xs r
+        (λ x k. row_is laws fields tiles p meta config image blocks good whole chunk_some cs apart some q few fits q_some 4 none chunks false x k.2.0) (λ z. refl) (λ rs. refl) (λ ps h le. refl)) xs r
 
     -- ---- 10
 
@@ -147,7 +145,7 @@ module _ (laws : KeepsPlan) (fields : FieldsAreRead) (tiles : Tiles) (p : Sendin
         (confirm_asking fields tiles p meta image u blocks good q few whole chunk_some held last all_full all_is none chunks) (λ rs. refl)
         (λ x h. (row_begun laws fields tiles p meta config image blocks good whole chunk_some cs apart some q few fits q_some Confirm 6 none chunks x h.2.0 refl, applies_at Confirm x h.2.1))
         (next_leads laws fields tiles p meta config image blocks good whole chunk_some cs apart some q few fits q_some Apply Confirm (Done AD)
-            (λ x k. row_is laws fields tiles p meta config image blocks good whole chunk_some cs apart some q few fits q_some 6 none chunks false x k.2.0) (λ z. refl) (λ rs. refl) (λ ps h le. refl)) xs r
+        (λ x k. row_is laws fields tiles p meta config image blocks good whole chunk_some cs apart some q few fits q_some 6 none chunks false x k.2.0) (λ z. refl) (λ rs. refl) (λ ps h le. refl)) xs r
 
     abbrev pub Final : Pair → Type 0
     Final x = Row 8 none chunks false x × IsActive fields tiles p meta image u blocks good q few whole chunk_some held last all_full all_is none chunks x
@@ -157,8 +155,8 @@ module _ (laws : KeepsPlan) (fields : FieldsAreRead) (tiles : Tiles) (p : Sendin
     last_steps b xs r =
         and_then q (q + q) (At_ (At Verify) (Done VD)) (At_ (At Confirm) Final) xs (verified b xs r)
         (λ ys s. and_then q q (At_ (At Apply) (Done AD)) (At_ (At Confirm) Final) ys (applied ys s)
-          (λ zs t. so q (At_ (At Confirm) (Done CD)) (At_ (At Confirm) Final) zs
-            (reached_as laws fields tiles p meta config image blocks good whole chunk_some cs apart some q few fits q_some to mc reached counts lists (At Confirm) (Done CD) Final (λ x h. h.2)) (confirmed zs t)))
+        (λ zs t. so q (At_ (At Confirm) (Done CD)) (At_ (At Confirm) Final) zs
+        (reached_as laws fields tiles p meta config image blocks good whole chunk_some cs apart some q few fits q_some to mc reached counts lists (At Confirm) (Done CD) Final (λ x h. h.2)) (confirmed zs t)))
 
     -- ---- and from then on
 
@@ -191,16 +189,21 @@ module _ (laws : KeepsPlan) (fields : FieldsAreRead) (tiles : Tiles) (p : Sendin
     -- a turn in which the client sends nothing
     silent : (place next : Place) (ps : List Pair) (xs : List Member) → Station laws p meta config image place [] ps xs
         → ((began moment : ℕ) → d.by_place (client_at laws p meta config image place [] began moment (map receiver_in ps)) image place
-            ≡ d.sends_nothing (client_at laws p meta config image next [] began moment (map receiver_in ps)))
+        ≡ d.sends_nothing (client_at laws p meta config image next [] began moment (map receiver_in ps)))
         → (v : Client) × Station laws p meta config image next [] (map (pair_time v u) ps) (turn xs)
     silent place next ps xs s quiet =
         let v : Client = client_at laws p meta config image next [] s.began (max s.moment (s.now + 100)) (map receiver_in ps) in
         let early = s.early in
-        let late : max s.moment (s.now + 100) ≡ s.now + 100 = omega (arith, early) in
-        (v, record {
-          now = s.now + 100; began = s.began; moment = max s.moment (s.now + 100); early = omega (arith, late);
-          holds = turned laws config image s.now _ ps xs s.holds (λ r. r) (λ r. refl) (d.sends_nothing v) (quiet s.began (max s.moment (s.now + 100))) (map_id (map receiver_in ps)) late;
-        })
+        let late : max s.moment (s.now + 100) ≡ s.now + 100 = omega (arith, early) in (
+          v,
+          record {
+            now = s.now + 100;
+            began = s.began;
+            moment = max s.moment (s.now + 100);
+            early = omega (arith, late);
+            holds = turned laws config image s.now _ ps xs s.holds (λ r. r) (λ r. refl) (d.sends_nothing v) (quiet s.began (max s.moment (s.now + 100))) (map_id (map receiver_in ps)) late;
+          },
+        )
 
     confirm_ends : (ps : List Pair) → AllByRecursion Final ps → (began moment : ℕ)
         → d.by_place (client_at laws p meta config image (At Confirm) [] began moment (map receiver_in ps)) image (At Confirm)
@@ -211,13 +214,13 @@ module _ (laws : KeepsPlan) (fields : FieldsAreRead) (tiles : Tiles) (p : Sendin
 
     over_turn : (xs : List Member) → Over xs → Over (turn xs)
     over_turn xs o = elim o.at_end [
-        | inl e ↦ (
-            let t = silent (At Confirm) (Ended Applying) o.qs xs (subst (λ place. Station laws p meta config image place [] o.qs xs) e o.station) (confirm_ends o.qs o.all) in
-            record { place = Ended Applying; at_end = inr refl; qs = map (pair_time t.0 u) o.qs; station = t.1; all = all_later t.0 o.qs o.all; same = same_configs t.0 o.qs ∙ o.same })
-        | inr e ↦ (
-            let t = silent (Ended Applying) (Ended Applying) o.qs xs (subst (λ place. Station laws p meta config image place [] o.qs xs) e o.station) (λ began moment. refl) in
-            record { place = Ended Applying; at_end = inr refl; qs = map (pair_time t.0 u) o.qs; station = t.1; all = all_later t.0 o.qs o.all; same = same_configs t.0 o.qs ∙ o.same })
-      ]
+      | inl e ↦ (
+          let t = silent (At Confirm) (Ended Applying) o.qs xs (subst (λ place. Station laws p meta config image place [] o.qs xs) e o.station) (confirm_ends o.qs o.all) in
+          record { place = Ended Applying; at_end = inr refl; qs = map (pair_time t.0 u) o.qs; station = t.1; all = all_later t.0 o.qs o.all; same = same_configs t.0 o.qs ∙ o.same })
+      | inr e ↦ (
+          let t = silent (Ended Applying) (Ended Applying) o.qs xs (subst (λ place. Station laws p meta config image place [] o.qs xs) e o.station) (λ began moment. refl) in
+          record { place = Ended Applying; at_end = inr refl; qs = map (pair_time t.0 u) o.qs; station = t.1; all = all_later t.0 o.qs o.all; same = same_configs t.0 o.qs ∙ o.same })
+    ]
 
     over_always : (n : ℕ) (xs : List Member) → Over xs → Over (settle n xs)
     over_always zero xs o = o
@@ -241,9 +244,9 @@ module _ (laws : KeepsPlan) (fields : FieldsAreRead) (tiles : Tiles) (p : Sendin
       and_then (q + (q + (q + q))) (suc blocks * (q + (suc mc + q)) + (q + (q + q))) (At_ (At Transfer) (Done (TransferD fields p meta image u blocks good q few))) SomeOver xs
       (four laws fields tiles p meta config image blocks good whole chunk_some cs apart some q few fits q_some xs r)
       (λ ys s. and_then (suc blocks * (q + (suc mc + q))) (q + (q + q)) (Ended_blocks laws fields tiles p meta config image blocks good whole chunk_some cs apart some q few fits q_some to mc reached counts lists) SomeOver ys
-        (all_blocks laws fields tiles p meta config image blocks good whole chunk_some cs apart some q few fits q_some to mc reached counts lists blocks 0 Transfer tt (omega arith) ys
-            (reached_as laws fields tiles p meta config image blocks good whole chunk_some cs apart some q few fits q_some to mc reached counts lists (At Transfer) _ _
-                (first_between laws fields tiles p meta config image blocks good whole chunk_some cs apart some q few fits q_some to mc reached counts lists) ys s))
-        (λ zs t. so (q + (q + q)) (At_ (At Confirm) (Final t.c)) SomeOver zs
-          (λ ws o. record { c = t.c; over = record { place = At Confirm; at_end = inl refl; qs = o.qs; station = o.station; all = o.all; same = o.same } })
-          (last_steps t.c t.b zs t.held_all)))
+      (all_blocks laws fields tiles p meta config image blocks good whole chunk_some cs apart some q few fits q_some to mc reached counts lists blocks 0 Transfer tt (omega arith) ys
+      (reached_as laws fields tiles p meta config image blocks good whole chunk_some cs apart some q few fits q_some to mc reached counts lists (At Transfer) _ _
+      (first_between laws fields tiles p meta config image blocks good whole chunk_some cs apart some q few fits q_some to mc reached counts lists) ys s))
+      (λ zs t. so (q + (q + q)) (At_ (At Confirm) (Final t.c)) SomeOver zs
+      (λ ws o. record { c = t.c; over = record { place = At Confirm; at_end = inl refl; qs = o.qs; station = o.station; all = o.all; same = o.same } })
+      (last_steps t.c t.b zs t.held_all)))

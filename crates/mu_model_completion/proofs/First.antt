@@ -1,7 +1,6 @@
 -- The steps before the blocks: check, start, information and transfer.
-use Rattle.std.proofs.Common.{◌≡◌, ◌⊎◌, inl, inr, ◌<◌, ◌≤◌, ◌+◌, ◌*◌, ◌==◌, ℕ, zero, suc, List, [], ◌∷◌, ◌++◌, refl, sym, ap, ◌∙◌, subst, true, false, Bool, Option, Some, None, arith, map, max, length}
-use Rattle.std.specs.Prelude.{◌&&◌, ◌||◌, not, if◌then◌else◌, nat_lt, nat_le}
-use Rattle.std.specs.List.{list_any}
+use Rattle.std.proofs.Common.{◌≡◌, ◌<◌, ◌≤◌, ◌+◌, ◌*◌, ◌==◌, ℕ, suc, List, [], ◌∷◌, refl, sym, ap, ◌∙◌, subst, true, false, Bool, Option, Some, None, arith, map}
+use Rattle.std.specs.Prelude.{◌||◌, nat_lt}
 use Rattle.mu_model_image.specs.declared.Meta.{Meta}
 use Rattle.mu_model_image.specs.Meta.{Image, meta_octets}
 use Rattle.mu_model_wire.specs.Reports.{every_number}
@@ -15,7 +14,7 @@ use Rattle.mu_model_node.specs.FlashWork.{fresh_after}
 use Rattle.mu_model_node.specs.NodeState.{NodeState}
 use Rattle.mu_model_client.specs.declared.Sending.{Sending}
 use Rattle.mu_model_client.specs.Answers.{heard}
-use Rattle.mu_model_client.specs.Client.{Client, Receiver, Step, Check, Start, Information, Transfer, block_total, full_chunks}
+use Rattle.mu_model_client.specs.Client.{Client, Receiver, Check, Start, Information, Transfer, block_total, full_chunks}
 use Rattle.mu_model_client.specs.Told as t
 use Rattle.mu_model_client_laws.specs.Laws.{FieldsAreRead}
 use Rattle.mu_model_completion.proofs.Local.{tells}
@@ -106,13 +105,27 @@ module _ (fields : FieldsAreRead) (p : Sending) (meta : Meta) (image : List ℕ)
 
   pub taken_longer : (a b : ℕ) (x : Pair) → a ≤ b → Taken a x → Taken b x
   taken_longer a b x le h = record {
-    capacity = h.capacity; active = h.active; images = h.images; offer = h.offer; count = h.count; fresh = h.fresh; heard = h.heard; n_is = h.n_is;
+    capacity = h.capacity;
+    active = h.active;
+    images = h.images;
+    offer = h.offer;
+    count = h.count;
+    fresh = h.fresh;
+    heard = h.heard;
+    n_is = h.n_is;
     lately = (let l = h.lately in omega (arith, l, le));
   }
 
   pub runs_longer : (held : Slots) (last : Option LastBlock) (a b : ℕ) (x : Pair) → a ≤ b → Runs held last a x → Runs held last b x
   runs_longer held last a b x le h = record {
-    capacity = h.capacity; active = h.active; images = h.images; offer = h.offer; count = h.count; fresh = h.fresh; heard = h.heard; n_is = h.n_is;
+    capacity = h.capacity;
+    active = h.active;
+    images = h.images;
+    offer = h.offer;
+    count = h.count;
+    fresh = h.fresh;
+    heard = h.heard;
+    n_is = h.n_is;
     lately = (let l = h.lately in omega (arith, l, le));
   }
 
@@ -122,37 +135,68 @@ module _ (fields : FieldsAreRead) (p : Sending) (meta : Meta) (image : List ℕ)
     idle_passes : (h : Idle x) → Does (passes x.n (x.moment + 100)) (idle h.capacity (h.active ∷ h.images) h.count h.fresh h.session (x.moment + 100)) []
     idle_passes h =
         subst (λ n. Does (passes n (x.moment + 100)) (idle h.capacity (h.active ∷ h.images) h.count h.fresh h.session (x.moment + 100)) []) (sym h.n_is)
-            (idle_time h.capacity h.active h.images h.count h.fresh h.session h.m (x.moment + 100) (let e = h.early in omega (arith, e)))
+        (idle_time h.capacity h.active h.images h.count h.fresh h.session h.m (x.moment + 100) (let e = h.early in omega (arith, e)))
 
     pub idle_later : Idle x → Idle (pair_time v u x) × ((pair_time v u x).r ≡ x.r)
-    idle_later h = (record {
-      capacity = h.capacity; active = h.active; images = h.images; offer = h.offer; count = h.count; fresh = h.fresh; session = h.session; m = x.moment + 100; early = omega arith;
-      n_is = time_node v u x _ (idle_passes h);
-    }, time_receiver v u x _ (idle_passes h))
+    idle_later h = (
+      record {
+        capacity = h.capacity;
+        active = h.active;
+        images = h.images;
+        offer = h.offer;
+        count = h.count;
+        fresh = h.fresh;
+        session = h.session;
+        m = x.moment + 100;
+        early = omega arith;
+        n_is = time_node v u x _ (idle_passes h);
+      },
+      time_receiver v u x _ (idle_passes h),
+    )
 
     taken_passes : (a : ℕ) → a < 99 → (h : Taken a x) → Does (passes x.n (x.moment + 100)) (taken p meta image h.capacity h.active h.images h.offer u h.count h.fresh h.heard (x.moment + 100)) []
     taken_passes a lt h =
         subst (λ n. Does (passes n (x.moment + 100)) (taken p meta image h.capacity h.active h.images h.offer u h.count h.fresh h.heard (x.moment + 100)) []) (sym h.n_is)
-            (taken_time p meta image h.capacity h.active h.images h.offer u h.count h.fresh h.heard x.moment (x.moment + 100) (omega arith) (in_time p x.moment h.heard a h.lately lt))
+        (taken_time p meta image h.capacity h.active h.images h.offer u h.count h.fresh h.heard x.moment (x.moment + 100) (omega arith) (in_time p x.moment h.heard a h.lately lt))
 
     pub taken_later : (a : ℕ) → a < 99 → Taken a x → Taken (suc a) (pair_time v u x) × ((pair_time v u x).r ≡ x.r)
-    taken_later a lt h = (record {
-      capacity = h.capacity; active = h.active; images = h.images; offer = h.offer; count = h.count; fresh = h.fresh; heard = h.heard;
-      lately = (let l = h.lately in omega (arith, l)); n_is = time_node v u x _ (taken_passes a lt h);
-    }, time_receiver v u x _ (taken_passes a lt h))
+    taken_later a lt h = (
+      record {
+        capacity = h.capacity;
+        active = h.active;
+        images = h.images;
+        offer = h.offer;
+        count = h.count;
+        fresh = h.fresh;
+        heard = h.heard;
+        lately = (let l = h.lately in omega (arith, l));
+        n_is = time_node v u x _ (taken_passes a lt h);
+      },
+      time_receiver v u x _ (taken_passes a lt h),
+    )
 
     runs_passes : (held : Slots) (last : Option LastBlock) (a : ℕ) → is_full held ≡ false → a < 99 → (h : Runs held last a x)
         → Does (passes x.n (x.moment + 100)) (running p meta image h.capacity h.active h.images h.offer u 0 0 held None last h.count h.fresh h.heard (x.moment + 100)) []
     runs_passes held last a short lt h =
         subst (λ n. Does (passes n (x.moment + 100)) (running p meta image h.capacity h.active h.images h.offer u 0 0 held None last h.count h.fresh h.heard (x.moment + 100)) []) (sym h.n_is)
-            (running_time p meta image h.capacity h.active h.images h.offer u 0 0 held last h.count h.fresh h.heard x.moment (x.moment + 100) short (omega arith) (in_time p x.moment h.heard a h.lately lt))
+        (running_time p meta image h.capacity h.active h.images h.offer u 0 0 held last h.count h.fresh h.heard x.moment (x.moment + 100) short (omega arith) (in_time p x.moment h.heard a h.lately lt))
 
     pub runs_later : (held : Slots) (last : Option LastBlock) (a : ℕ) → is_full held ≡ false → a < 99 → Runs held last a x
         → Runs held last (suc a) (pair_time v u x) × ((pair_time v u x).r ≡ x.r)
-    runs_later held last a short lt h = (record {
-      capacity = h.capacity; active = h.active; images = h.images; offer = h.offer; count = h.count; fresh = h.fresh; heard = h.heard;
-      lately = (let l = h.lately in omega (arith, l)); n_is = time_node v u x _ (runs_passes held last a short lt h);
-    }, time_receiver v u x _ (runs_passes held last a short lt h))
+    runs_later held last a short lt h = (
+      record {
+        capacity = h.capacity;
+        active = h.active;
+        images = h.images;
+        offer = h.offer;
+        count = h.count;
+        fresh = h.fresh;
+        heard = h.heard;
+        lately = (let l = h.lately in omega (arith, l));
+        n_is = time_node v u x _ (runs_passes held last a short lt h);
+      },
+      time_receiver v u x _ (runs_passes held last a short lt h),
+    )
 
     pub row_later : (phase : ℕ) (bs cs : List Bool) (pending : Bool) → (pair_time v u x).r ≡ x.r → Row phase bs cs pending x → Row phase bs cs pending (pair_time v u x)
     row_later phase bs cs pending e h = record { r_is = e ∙ h.r_is }
@@ -178,15 +222,24 @@ module _ (fields : FieldsAreRead) (p : Sending) (meta : Meta) (image : List ℕ)
     checks : Does (asks x.n u (check_request) x.moment) (idle w.1.capacity (w.1.active ∷ w.1.images) w.1.count w.1.fresh w.1.session x.moment) ((u, ByUpdate (MetadataStatus 0 0)) ∷ [])
     checks =
         subst (λ n. Does (asks n u (check_request) x.moment) (idle w.1.capacity (w.1.active ∷ w.1.images) w.1.count w.1.fresh w.1.session x.moment) ((u, ByUpdate (MetadataStatus 0 0)) ∷ [])) (sym w.1.n_is)
-            (idle_check w.1.capacity w.1.active w.1.images w.1.count w.1.fresh w.1.session p meta image w.1.offer u x.moment w.1.m w.1.early)
+        (idle_check w.1.capacity w.1.active w.1.images w.1.count w.1.fresh w.1.session p meta image w.1.offer u x.moment w.1.m w.1.early)
 
     pub check_answered : CheckD 0 (answered_by (view p meta Check) u x (asks x.n u (check_request) x.moment))
     check_answered = (
       row_answered (view p meta Check) u x check_request _ (ByUpdate (MetadataStatus 0 0)) 10 10 [] [] [] [] checks w.0 (told_check p meta x.config.address [] []),
       record {
-        capacity = w.1.capacity; active = w.1.active; images = w.1.images; offer = w.1.offer; count = w.1.count; fresh = w.1.fresh; session = w.1.session; m = x.moment;
-        early = omega arith; n_is = checks.next_is;
-      })
+        capacity = w.1.capacity;
+        active = w.1.active;
+        images = w.1.images;
+        offer = w.1.offer;
+        count = w.1.count;
+        fresh = w.1.fresh;
+        session = w.1.session;
+        m = x.moment;
+        early = omega arith;
+        n_is = checks.next_is;
+      },
+    )
 
   pub check_asking : Asking p meta u Check check_request CheckW CheckD most
   check_asking = record {
@@ -215,15 +268,23 @@ module _ (fields : FieldsAreRead) (p : Sending) (meta : Meta) (image : List ℕ)
     starts : Does (asks x.n u start_request x.moment) (taken p meta image w.1.capacity w.1.active w.1.images w.1.offer u (w.1.count + 1) (fresh_after false w.1.fresh) x.moment x.moment) ((u, ByUpdate (UpdateStatus 0 2 (Some (shown p meta)))) ∷ [])
     starts =
         subst (λ n. Does (asks n u start_request x.moment) (taken p meta image w.1.capacity w.1.active w.1.images w.1.offer u (w.1.count + 1) (fresh_after false w.1.fresh) x.moment x.moment) ((u, ByUpdate (UpdateStatus 0 2 (Some (shown p meta)))) ∷ [])) (sym w.1.n_is)
-            (idle_start w.1.capacity w.1.active w.1.images w.1.count w.1.fresh w.1.session p meta image w.1.offer u x.moment w.1.m w.1.early)
+        (idle_start w.1.capacity w.1.active w.1.images w.1.count w.1.fresh w.1.session p meta image w.1.offer u x.moment w.1.m w.1.early)
 
     pub start_answered : StartD j (answered_by (view p meta Start) u x (asks x.n u start_request x.moment))
     start_answered = (
       row_answered (view p meta Start) u x start_request _ (ByUpdate (UpdateStatus 0 2 (Some (shown p meta)))) 10 2 [] [] [] [] starts w.0 (told_start p meta x.config.address [] []),
       record {
-        capacity = w.1.capacity; active = w.1.active; images = w.1.images; offer = w.1.offer; count = w.1.count + 1; fresh = fresh_after false w.1.fresh; heard = x.moment;
-        lately = omega arith; n_is = starts.next_is;
-      })
+        capacity = w.1.capacity;
+        active = w.1.active;
+        images = w.1.images;
+        offer = w.1.offer;
+        count = w.1.count + 1;
+        fresh = fresh_after false w.1.fresh;
+        heard = x.moment;
+        lately = omega arith;
+        n_is = starts.next_is;
+      },
+    )
 
   under : (j a : ℕ) → j < most → a ≤ 2 * most → a + j < 99
   under j a lt le = omega (arith, lt, le, few)
@@ -252,7 +313,7 @@ module _ (fields : FieldsAreRead) (p : Sending) (meta : Meta) (image : List ℕ)
     informs : Does (asks x.n u (OfBlob BlobInformationGet) x.moment) (taken p meta image w.1.capacity w.1.active w.1.images w.1.offer u w.1.count w.1.fresh w.1.heard x.moment) ((u, ByBlob (BlobInformationStatus w.1.capacity)) ∷ [])
     informs =
         subst (λ n. Does (asks n u (OfBlob BlobInformationGet) x.moment) (taken p meta image w.1.capacity w.1.active w.1.images w.1.offer u w.1.count w.1.fresh w.1.heard x.moment) ((u, ByBlob (BlobInformationStatus w.1.capacity)) ∷ [])) (sym w.1.n_is)
-            (taken_information p meta image w.1.capacity w.1.active w.1.images w.1.offer u w.1.count w.1.fresh w.1.heard x.moment)
+        (taken_information p meta image w.1.capacity w.1.active w.1.images w.1.offer u w.1.count w.1.fresh w.1.heard x.moment)
 
     room : nat_lt w.1.capacity p.size ≡ false
     room = ap (λ n. nat_lt w.1.capacity n) w.1.offer.size ∙ w.1.offer.room
@@ -262,9 +323,17 @@ module _ (fields : FieldsAreRead) (p : Sending) (meta : Meta) (image : List ℕ)
       row_answered (view p meta Information) u x (OfBlob BlobInformationGet) _ (ByBlob (BlobInformationStatus w.1.capacity)) 2 2 [] [] [] [] informs w.0
           (told_information p meta x.config.address [] [] w.1.capacity room w.1.offer.log good.long good.push),
       record {
-        capacity = w.1.capacity; active = w.1.active; images = w.1.images; offer = w.1.offer; count = w.1.count; fresh = w.1.fresh; heard = w.1.heard;
-        lately = w.1.lately; n_is = informs.next_is;
-      })
+        capacity = w.1.capacity;
+        active = w.1.active;
+        images = w.1.images;
+        offer = w.1.offer;
+        count = w.1.count;
+        fresh = w.1.fresh;
+        heard = w.1.heard;
+        lately = w.1.lately;
+        n_is = informs.next_is;
+      },
+    )
 
   taken_on : (v : Client) (x : Pair) (j a : ℕ) → j < most → a ≤ 2 * most → Taken (a + j) x → Taken (a + suc j) (pair_time v u x) × ((pair_time v u x).r ≡ x.r)
   taken_on v x j a lt le h =
@@ -302,16 +371,24 @@ module _ (fields : FieldsAreRead) (p : Sending) (meta : Meta) (image : List ℕ)
     transfers : Does (asks x.n u transfer_request x.moment) (running p meta image w.1.capacity w.1.active w.1.images w.1.offer u 0 0 (empty (suc blocks)) None None (w.1.count + 1) (fresh_after false w.1.fresh) x.moment x.moment) ((u, transfer_reply) ∷ [])
     transfers =
         subst (λ n. Does (asks n u transfer_request x.moment) (running p meta image w.1.capacity w.1.active w.1.images w.1.offer u 0 0 (empty (suc blocks)) None None (w.1.count + 1) (fresh_after false w.1.fresh) x.moment x.moment) ((u, transfer_reply) ∷ [])) (sym w.1.n_is)
-            (taken_transfer p meta image w.1.capacity w.1.active w.1.images w.1.offer u w.1.count w.1.fresh w.1.heard x.moment (suc blocks) good.total refl)
+        (taken_transfer p meta image w.1.capacity w.1.active w.1.images w.1.offer u w.1.count w.1.fresh w.1.heard x.moment (suc blocks) good.total refl)
 
     pub transfer_answered : TransferD j (answered_by (view p meta Transfer) u x (asks x.n u transfer_request x.moment))
     transfer_answered = (
       row_answered (view p meta Transfer) u x transfer_request _ transfer_reply 2 2 [] [] (every_number (suc blocks)) [] transfers w.0
           (told_transfer p meta fields x.config.address (suc blocks) [] [] good.total),
       record {
-        capacity = w.1.capacity; active = w.1.active; images = w.1.images; offer = w.1.offer; count = w.1.count + 1; fresh = fresh_after false w.1.fresh; heard = x.moment;
-        lately = omega arith; n_is = transfers.next_is;
-      })
+        capacity = w.1.capacity;
+        active = w.1.active;
+        images = w.1.images;
+        offer = w.1.offer;
+        count = w.1.count + 1;
+        fresh = fresh_after false w.1.fresh;
+        heard = x.moment;
+        lately = omega arith;
+        n_is = transfers.next_is;
+      },
+    )
 
   pub transfer_asking : Asking p meta u Transfer transfer_request TransferW TransferD most
   transfer_asking = record {

@@ -1,6 +1,5 @@
 -- The steps after the blocks: verify, apply and confirm.
-use Rattle.std.proofs.Common.{◌≡◌, ◌⊎◌, inl, inr, ◌<◌, ◌≤◌, ◌+◌, ◌*◌, ◌==◌, ℕ, zero, suc, List, [], ◌∷◌, ◌++◌, refl, sym, ap, ◌∙◌, subst, true, false, Bool, Option, Some, None, arith, map, max, length}
-use Rattle.std.specs.Prelude.{◌&&◌, ◌||◌, not, if◌then◌else◌, nat_lt, nat_le}
+use Rattle.std.proofs.Common.{◌≡◌, ◌⊎◌, inl, inr, ◌<◌, ◌+◌, ◌*◌, ℕ, zero, suc, List, [], ◌∷◌, refl, sym, ap, subst, true, false, Bool, Option, Some, arith, length}
 use Rattle.mu_model_image.specs.declared.Meta.{Meta}
 use Rattle.mu_model_image.specs.Meta.{Image, firmware_id, own_company}
 use Rattle.mu_model_node.specs.declared.LastBlock.{LastBlock}
@@ -11,11 +10,11 @@ use Rattle.mu_model_node.specs.BlobServer.{Session}
 use Rattle.mu_model_node.specs.FlashWork.{fresh_after}
 use Rattle.mu_model_node.specs.NodeMessages.{Request, OfUpdate, Reply, ByUpdate}
 use Rattle.mu_model_client.specs.declared.Sending.{Sending}
-use Rattle.mu_model_client.specs.Client.{Client, Receiver, Step, Verify, Apply, Confirm}
+use Rattle.mu_model_client.specs.Client.{Client, Verify, Apply, Confirm}
 use Rattle.mu_model_client_laws.specs.Laws.{FieldsAreRead}
 use Rattle.mu_model_completion.proofs.Pairs.{Pair, answered_by, pair_time}
 use Rattle.mu_model_completion.proofs.Nodes.{Does, passes, asks, Offer, idle, idle_time, idle_information, sealed_in, verified_status, applies, activates, after_all, shown}
-use Rattle.mu_model_completion.proofs.Receivers.{rcv, view, told_verify, told_apply, told_confirm}
+use Rattle.mu_model_completion.proofs.Receivers.{view, told_verify, told_apply, told_confirm}
 use Rattle.mu_model_completion.proofs.Asking.{Asking}
 use Rattle.mu_model_completion.proofs.First.{Good, Row, row_answered, row_pending, row_index, row_later, time_node, time_receiver, row_place}
 use Rattle.mu_model_completion.proofs.Blocks.{Tiles, IsVerified, Sealing, sealing_later}
@@ -52,12 +51,13 @@ module _ (fields : FieldsAreRead) (tiles : Tiles) (p : Sending) (meta : Meta) (i
     verifying : Does (asks x.n u (OfUpdate UpdateGet) x.moment) (sealed_in p meta image h.capacity h.active h.images h.offer u 0 0 Verified held last h.count h.fresh h.heard x.moment) ((u, status_reply 4) ∷ [])
     verifying =
         subst (λ s. Does (asks s u (OfUpdate UpdateGet) x.moment) (sealed_in p meta image h.capacity h.active h.images h.offer u 0 0 Verified held last h.count h.fresh h.heard x.moment) ((u, status_reply 4) ∷ [])) (sym h.n_is)
-            (verified_status p meta image h.capacity h.active h.images h.offer u 0 0 held last h.count h.fresh h.heard x.moment)
+        (verified_status p meta image h.capacity h.active h.images h.offer u 0 0 held last h.count h.fresh h.heard x.moment)
 
     verify_answered : Row 4 bs cs false (answered_by (view p meta Verify) u x (asks x.n u (OfUpdate UpdateGet) x.moment)) × AVerified (answered_by (view p meta Verify) u x (asks x.n u (OfUpdate UpdateGet) x.moment))
     verify_answered = (
       row_answered (view p meta Verify) u x (OfUpdate UpdateGet) _ (status_reply 4) 2 4 bs cs bs cs verifying row (told_verify p meta x.config.address bs cs),
-      record { capacity = h.capacity; active = h.active; images = h.images; offer = h.offer; count = h.count; fresh = h.fresh; heard = h.heard; n_is = verifying.next_is })
+      record { capacity = h.capacity; active = h.active; images = h.images; offer = h.offer; count = h.count; fresh = h.fresh; heard = h.heard; n_is = verifying.next_is },
+    )
 
   pub verify_asking : Asking p meta u Verify (OfUpdate UpdateGet) VerifyW VerifyD most
   verify_asking = record {
@@ -101,12 +101,12 @@ module _ (fields : FieldsAreRead) (tiles : Tiles) (p : Sending) (meta : Meta) (i
     applied_passes : (h : IsApplied x) → Does (passes x.n (x.moment + 100)) (idle h.capacity (new_image ∷ h.images) (h.count + 1) (fresh_after false h.fresh) (after_all p meta image h.capacity h.active h.images h.offer u 0 0 h.heard) (x.moment + 100)) []
     applied_passes h =
         subst (λ s. Does (passes s (x.moment + 100)) (idle h.capacity (new_image ∷ h.images) (h.count + 1) (fresh_after false h.fresh) (after_all p meta image h.capacity h.active h.images h.offer u 0 0 h.heard) (x.moment + 100)) []) (sym h.n_is)
-            (activates p meta image h.capacity h.active h.images h.offer u 0 0 held last h.count h.fresh h.heard x.moment (x.moment + 100) (omega arith))
+        (activates p meta image h.capacity h.active h.images h.offer u 0 0 held last h.count h.fresh h.heard x.moment (x.moment + 100) (omega arith))
 
     active_passes : (h : IsActive x) → Does (passes x.n (x.moment + 100)) (idle h.capacity (new_image ∷ h.images) h.count h.fresh h.session (x.moment + 100)) []
     active_passes h =
         subst (λ s. Does (passes s (x.moment + 100)) (idle h.capacity (new_image ∷ h.images) h.count h.fresh h.session (x.moment + 100)) []) (sym h.n_is)
-            (idle_time h.capacity new_image h.images h.count h.fresh h.session x.moment (x.moment + 100) (omega arith))
+        (idle_time h.capacity new_image h.images h.count h.fresh h.session x.moment (x.moment + 100) (omega arith))
 
     pub applies_later : Applies x → IsActive (pair_time v u x) × ((pair_time v u x).r ≡ x.r)
     applies_later (inl h) = (record { capacity = h.capacity; images = h.images; count = h.count + 1; fresh = fresh_after false h.fresh; session = after_all p meta image h.capacity h.active h.images h.offer u 0 0 h.heard; n_is = time_node v u x _ (applied_passes h) }, time_receiver v u x _ (applied_passes h))
@@ -122,12 +122,13 @@ module _ (fields : FieldsAreRead) (tiles : Tiles) (p : Sending) (meta : Meta) (i
     applying : Does (asks x.n u (OfUpdate UpdateApply) x.moment) (sealed_in p meta image h.capacity h.active h.images h.offer u 0 0 Applied held last (h.count + 1) (fresh_after false h.fresh) h.heard x.moment) ((u, status_reply 6) ∷ [])
     applying =
         subst (λ s. Does (asks s u (OfUpdate UpdateApply) x.moment) (sealed_in p meta image h.capacity h.active h.images h.offer u 0 0 Applied held last (h.count + 1) (fresh_after false h.fresh) h.heard x.moment) ((u, status_reply 6) ∷ [])) (sym h.n_is)
-            (applies p meta image h.capacity h.active h.images h.offer u 0 0 held last h.count h.fresh h.heard x.moment)
+        (applies p meta image h.capacity h.active h.images h.offer u 0 0 held last h.count h.fresh h.heard x.moment)
 
     apply_answered : Row 6 bs cs false (answered_by (view p meta Apply) u x (asks x.n u (OfUpdate UpdateApply) x.moment)) × Applies (answered_by (view p meta Apply) u x (asks x.n u (OfUpdate UpdateApply) x.moment))
     apply_answered = (
       row_answered (view p meta Apply) u x (OfUpdate UpdateApply) _ (status_reply 6) 4 6 bs cs bs cs applying row (told_apply p meta x.config.address bs cs),
-      inl (record { capacity = h.capacity; active = h.active; images = h.images; offer = h.offer; count = h.count + 1; fresh = fresh_after false h.fresh; heard = h.heard; n_is = applying.next_is }))
+      inl (record { capacity = h.capacity; active = h.active; images = h.images; offer = h.offer; count = h.count + 1; fresh = fresh_after false h.fresh; heard = h.heard; n_is = applying.next_is }),
+    )
 
   pub apply_asking : Asking p meta u Apply (OfUpdate UpdateApply) ApplyW ApplyD most
   apply_asking = record {
@@ -157,13 +158,14 @@ module _ (fields : FieldsAreRead) (tiles : Tiles) (p : Sending) (meta : Meta) (i
     confirms : Does (asks x.n u confirm_request x.moment) (idle h.capacity (new_image ∷ h.images) h.count h.fresh h.session x.moment) ((u, ByUpdate (InformationStatus (length (new_image ∷ h.images)) 0 (firmware_id own_company meta ∷ []))) ∷ [])
     confirms =
         subst (λ s. Does (asks s u confirm_request x.moment) (idle h.capacity (new_image ∷ h.images) h.count h.fresh h.session x.moment) ((u, ByUpdate (InformationStatus (length (new_image ∷ h.images)) 0 (firmware_id own_company meta ∷ []))) ∷ [])) (sym h.n_is)
-            (idle_information h.capacity new_image h.images h.count h.fresh h.session u x.moment)
+        (idle_information h.capacity new_image h.images h.count h.fresh h.session u x.moment)
 
     confirm_answered : Row 8 bs cs false (answered_by (view p meta Confirm) u x (asks x.n u confirm_request x.moment)) × IsActive (answered_by (view p meta Confirm) u x (asks x.n u confirm_request x.moment))
     confirm_answered = (
       row_answered (view p meta Confirm) u x confirm_request _ (ByUpdate (InformationStatus (length (new_image ∷ h.images)) 0 (firmware_id own_company meta ∷ []))) 6 8 bs cs bs cs confirms row
           (told_confirm p meta x.config.address (length (new_image ∷ h.images)) bs cs),
-      record { capacity = h.capacity; images = h.images; count = h.count; fresh = h.fresh; session = h.session; n_is = confirms.next_is })
+      record { capacity = h.capacity; images = h.images; count = h.count; fresh = h.fresh; session = h.session; n_is = confirms.next_is },
+    )
 
   confirm_row : (j : ℕ) (x : Pair) → ConfirmW j x → Row 6 bs cs true x
   confirm_row zero x w = w.0

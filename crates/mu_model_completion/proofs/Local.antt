@@ -1,25 +1,19 @@
 -- A turn is local: what it does to a receiver and to its node depends on these two and on what the updater sent.
-use Rattle.std.proofs.Common.{◌≡◌, ◌+◌, ◌≤◌, ◌==◌, ℕ, zero, suc, List, [], ◌∷◌, ◌++◌, refl, sym, ap, ◌∙◌, subst, true, false, Bool, Option, Some, None, arith, map, max, append_assoc}
-use Rattle.std.specs.Prelude.{◌&&◌, ◌||◌, not, if◌then◌else◌, ⊤}
+use Rattle.std.proofs.Common.{◌≡◌, ◌==◌, ℕ, List, [], ◌∷◌, ◌++◌, refl, sym, ap, ◌∙◌, subst, true, false, Bool, Option, Some, None, arith, map, max}
+use Rattle.std.specs.Prelude.{◌||◌, if◌then◌else◌}
 use Rattle.std.specs.List.{flat_map, AllByRecursion}
-use Rattle.std.proofs.lemmas.Bool.{eq-eqb, eqb-true}
+use Rattle.std.proofs.lemmas.Bool.{eqb-true}
 use Rattle.std.proofs.lemmas.Bool.Decides.{nat_tests}
 use Rattle.mu_model_node.specs.declared.NodeConfig.{NodeConfig}
 use Rattle.mu_model_node.specs.NodeMessages.{Request, Reply}
-use Rattle.mu_model_node.specs.NodeState.{NodeState, update_phase}
-use Rattle.mu_model_node.specs.NodeOutcome.{Outcome}
-use Rattle.mu_model_node.specs.Events.{at_moment, on_request}
-use Rattle.mu_model_node.specs.TimeTable.{on_time}
+use Rattle.mu_model_node.specs.NodeState.{NodeState}
 use Rattle.mu_model_client.specs.Answers.{Answer, heard}
-use Rattle.mu_model_client.specs.Rows.{Row}
-use Rattle.mu_model_client.specs.Client.{Client, Receiver, rows, row_of}
-use Rattle.mu_model_client.specs.Begin.{is_ended}
+use Rattle.mu_model_client.specs.Client.{Client, Receiver}
 use Rattle.mu_model_client.specs.Told as t
 use Rattle.mu_model_client.specs.Told.{told}
-use Rattle.mu_model_client.specs.Due.{Due, due}
 use Rattle.mu_model_client_laws.specs.Laws.{KeepsPlan}
 pub use Rattle.mu_model_completion.specs.Completion.{at_address, Distinct}
-use Rattle.mu_model_completion.specs.Turn.{Member, Part, IsNode, IsUpdater, Body, Asks, Replies, Sent, Moved, asked_by, replied_by, stands, node_moved, updater_moved, later, part_timed, timed, node_given, updater_given, part_given, group_of, is_for, given_if, given, after_packet, answers_to, delivered, answers, after_time, sent_in_time, deliveries, turn}
+use Rattle.mu_model_completion.specs.Turn.{Member, Part, IsNode, IsUpdater, Body, Asks, Replies, Sent, asked_by, replied_by, later, part_timed, node_given, updater_given, part_given, is_for, given_if, after_packet, answers_to, delivered, answers, after_time, sent_in_time}
 
 -- ---- members by address
 
@@ -183,8 +177,8 @@ module _ (v : Client) (u : ℕ) where
     not_found : (a : ℕ) (x : Member) (xs : List Member) (here : Bool) → (if here then Some x else at_address a xs) ≡ None → (here ≡ false) × (at_address a xs ≡ None)
     not_found a x xs true h = absurd (some_none h)
       where
-      some_none : Some x ≡ None → ⊥
-      some_none e = grind (arith, e)
+        some_none : Some x ≡ None → ⊥
+        some_none e = grind (arith, e)
     not_found a x xs false h = (refl, h)
 
     pub tells_none : (f : Member → List Sent) → ((x : Member) → AllByRecursion (IsFrom x.config.address) (f x)) → (xs : List Member) (r : Receiver)
@@ -267,7 +261,7 @@ module _ (v : Client) (u : ℕ) where
         let here = tells_some (answers_to p) (λ y. packet_from p y (is_for y p)) x xs r d h in
         let one : Receiver = tells (answers_to p x) r in
         let found : at_address one.row.address (map (after_packet p) xs) ≡ Some (after_packet p x) =
-            ap (λ a. at_address a (map (after_packet p) xs)) (tells_kept (answers_to p x) r) ∙ (at_mapped (after_packet p) (packet_keeps p) r.row.address xs ∙ ap (mapped (after_packet p)) h) in
+        ap (λ a. at_address a (map (after_packet p) xs)) (tells_kept (answers_to p x) r) ∙ (at_mapped (after_packet p) (packet_keeps p) r.row.address xs ∙ ap (mapped (after_packet p)) h) in
         tells_append (flat_map (answers_to p) xs) (answers ps (map (after_packet p) xs)) r
         ∙ (ap (tells (answers ps (map (after_packet p) xs))) here
         ∙ (tells_answers ps (map (after_packet p) xs) (after_packet p x) one (distinct_mapped (after_packet p) (packet_keeps p) xs d) found
@@ -315,5 +309,5 @@ module _ (u : ℕ) (image : List ℕ) (config : NodeConfig) (at_u : config.addre
   client_told now c e (s ∷ ss) rs =
       let its : is_for (updater_at now (with_receivers c rs)) s ≡ (s.to == u) = or_false (s.to == config.address) ∙ ap (λ a. s.to == a) at_u in
       let one : after_packet s (updater_at now (with_receivers c rs)) ≡ updater_at now (with_receivers c (map (tell c u s) rs)) =
-          ap (λ b. (given_if s (updater_at now (with_receivers c rs)) b).member) its ∙ given_told now c e rs s (s.to == u) in
+      ap (λ b. (given_if s (updater_at now (with_receivers c rs)) b).member) its ∙ given_told now c e rs s (s.to == u) in
       ap (takes ss) one ∙ (client_told now c e ss (map (tell c u s) rs) ∙ ap (λ xs. updater_at now (with_receivers c xs)) (told_all c (tells c u ss) (tell c u s) rs))

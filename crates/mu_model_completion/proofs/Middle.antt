@@ -1,7 +1,7 @@
 -- The course of an update in push through its blocks.
-use Rattle.std.proofs.Common.{◌≡◌, ◌⊎◌, inl, inr, ◌<◌, ◌≤◌, ◌+◌, ◌-◌, ◌*◌, ◌==◌, ℕ, zero, suc, List, [], ◌∷◌, ◌++◌, refl, sym, ap, ◌∙◌, subst, true, false, Bool, Option, Some, None, arith, map, max, min, length, take, drop}
-use Rattle.std.specs.Prelude.{◌&&◌, ◌||◌, not, if◌then◌else◌, find}
-use Rattle.std.specs.List.{list_any, flat_map, range_with_len, AllByRecursion}
+use Rattle.std.proofs.Common.{◌≡◌, inl, ◌<◌, ◌≤◌, ◌+◌, ◌*◌, ℕ, zero, suc, List, [], ◌∷◌, refl, sym, ap, ◌∙◌, subst, true, false, Bool, Option, Some, None, arith, map, length}
+use Rattle.std.specs.Prelude.{◌||◌, not, if◌then◌else◌, find}
+use Rattle.std.specs.List.{list_any, range_with_len, AllByRecursion}
 use Rattle.mu_model_image.specs.declared.Meta.{Meta}
 use Rattle.mu_model_wire.specs.Reports.{has, every_number, no_number}
 use Rattle.mu_model_node.specs.declared.NodeConfig.{NodeConfig}
@@ -11,22 +11,21 @@ use Rattle.mu_model_node.specs.BlobMessages.{BlockGet}
 use Rattle.mu_model_node.specs.Slots.{Slots}
 use Rattle.mu_model_client.specs.declared.Sending.{Sending}
 use Rattle.mu_model_client.specs.Sets.{below, has_some}
-use Rattle.mu_model_client.specs.Client.{Client, Receiver, is_active, is_pending, is_in, is_begun_for, misses_chunks, misses_block, Item, Sends, Purpose, Update, Place, At, Step, Check, Start, Information, Transfer, Block, Chunks, Pull, Get, Verify, Apply, Confirm, Cancel, block_total, chunk_total}
-use Rattle.mu_model_client.specs.Lists as l
+use Rattle.mu_model_client.specs.Client.{Client, Receiver, is_active, is_pending, misses_chunks, misses_block, Sends, Update, Place, At, Step, Check, Start, Information, Transfer, Block, Chunks, Pull, Get, Verify, Apply, Confirm, Cancel, block_total, chunk_total}
 use Rattle.mu_model_client.specs.Lists.{chunk_items, missing_of}
 use Rattle.mu_model_client.specs.Due as d
 use Rattle.mu_model_client.specs.Due.{Go}
 use Rattle.mu_model_client_laws.specs.Laws.{KeepsPlan, FieldsAreRead}
-use Rattle.mu_model_completion.specs.Turn.{Member, turn, settle}
+use Rattle.mu_model_completion.specs.Turn.{Member, turn}
 use Rattle.mu_model_completion.proofs.Pairs.{Pair, receiver_in}
-use Rattle.mu_model_completion.proofs.Receivers.{rcv, none_some}
-use Rattle.mu_model_completion.proofs.Stations.{Within, at_once, by_turn, and_then, more_room, so, client_at, Station, begins, leads_on, first_items, turn_in, turn_next}
+use Rattle.mu_model_completion.proofs.Receivers.{none_some}
+use Rattle.mu_model_completion.proofs.Stations.{Within, by_turn, and_then, more_room, so, begins, leads_on, first_items, turn_next}
 use Rattle.mu_model_completion.proofs.Asking.{Apart, configs}
 use Rattle.mu_model_completion.proofs.First.{Good, Row, Runs, TransferD, runs_longer}
-use Rattle.mu_model_completion.proofs.Pieces.{lacking_from, held_below, missed_at, none_missed, find_least, find_none}
-use Rattle.mu_model_completion.proofs.Blocks.{Tiles, InBlock, held_of, last_of, BlockW, BlockD, block_request, block_asking, Chunked, chunked_longer, IsVerified, Sealing, After, GetW, GetD, get_asking}
-use Rattle.mu_model_completion.proofs.Sixteens.{Reaches, Chunking, ChunksSent, begin_chunks}
-use Rattle.mu_model_completion.proofs.Course.{Reached, Answered, Leads, go_step, next_leads, row_is, row_begun, row_begun_by, some_active, all_begin, configs_length, TransferDone}
+use Rattle.mu_model_completion.proofs.Pieces.{lacking_from, held_below, missed_at, find_least}
+use Rattle.mu_model_completion.proofs.Blocks.{Tiles, InBlock, held_of, last_of, BlockW, BlockD, block_request, block_asking, Chunked, chunked_longer, Sealing, After, GetW, GetD, get_asking}
+use Rattle.mu_model_completion.proofs.Sixteens.{Reaches, Chunking, begin_chunks}
+use Rattle.mu_model_completion.proofs.Course.{Reached, Answered, go_step, next_leads, row_is, row_begun, row_begun_by, some_active, all_begin, configs_length}
 
 -- the steps after which a block begins
 abbrev pub EndsBlock : Step → Type 0
@@ -39,7 +38,7 @@ module _ (laws : KeepsPlan) (fields : FieldsAreRead) (tiles : Tiles) (p : Sendin
     (to mc : ℕ) (reached : AllByRecursion (Reaches to) cs)
     (counts : (b : ℕ) → b < suc blocks → (c : ℕ) × (chunk_total p b ≡ suc c) × (suc c ≤ 16 * suc mc))
     (lists : (b c : ℕ) → chunk_total p b ≡ suc c → (bs : List Bool) (ps : List Pair) → AllByRecursion (Row 2 bs (every_number (suc c)) true) ps → configs ps ≡ cs
-        → chunk_items p b missing_of (map receiver_in ps) ≡ map (λ i. Sends to b i) (range_with_len 0 (suc c))) where
+    → chunk_items p b missing_of (map receiver_in ps) ≡ map (λ i. Sends to b i) (range_with_len 0 (suc c))) where
   abbrev u : ℕ
   u = config.address
 
@@ -93,9 +92,9 @@ module _ (laws : KeepsPlan) (fields : FieldsAreRead) (tiles : Tiles) (p : Sendin
   next_is b n sum ps h le =
       let t : ℕ → Bool = d.is_missed (map receiver_in ps) in
       let least : find t (below (block_total p)) ≡ Some b =
-          ap (λ m. find t (below m)) good.total ∙ find_least t (suc blocks) b (omega (arith, sum))
-          (λ k lt. not_missed (Between b (suc n)) k (λ x w. row_misses b (suc n) k x w.chunks false w.row ∙ held_below b (suc n) k lt) ps h)
-          (is_missed (Between b (suc n)) b (λ x w. row_misses b (suc n) b x w.chunks false w.row ∙ missed_at b n) ps h le) in
+      ap (λ m. find t (below m)) good.total ∙ find_least t (suc blocks) b (omega (arith, sum))
+      (λ k lt. not_missed (Between b (suc n)) k (λ x w. row_misses b (suc n) k x w.chunks false w.row ∙ held_below b (suc n) k lt) ps h)
+      (is_missed (Between b (suc n)) b (λ x w. row_misses b (suc n) b x w.chunks false w.row ∙ missed_at b n) ps h le) in
       ap (d.block_or (Go Verify)) least
 
   pub after_is : (s : Step) → EndsBlock s → (rs : List Receiver) → list_any misses_chunks rs ≡ false → d.after p (Update meta true) rs s ≡ d.next_block p (Update meta true) rs
@@ -141,14 +140,15 @@ module _ (laws : KeepsPlan) (fields : FieldsAreRead) (tiles : Tiles) (p : Sendin
     block_begins : (x : Pair) → Between b (suc n) x → BlockW fields tiles p meta image u blocks good q few whole chunk_some b n 0 (begins laws p meta config image (Block b) x)
     block_begins x h = (
       (h.chunks, row_begun laws fields tiles p meta config image blocks good whole chunk_some cs apart some q few fits q_some (Block b) 2 (lacking_from b (suc n)) h.chunks x h.row (missed_at b n)),
-      (h.before, runs_longer fields p meta image u blocks good q few (held b (suc n)) h.before q (q + 0) (begins laws p meta config image (Block b) x) (omega arith) (runs_at (Block b) (held b (suc n)) h.before q x h.runs)))
+      (h.before, runs_longer fields p meta image u blocks good q few (held b (suc n)) h.before q (q + 0) (begins laws p meta config image (Block b) x) (omega arith) (runs_at (Block b) (held b (suc n)) h.before q x h.runs)),
+    )
 
     begun : (s : Step) → EndsBlock s → (xs : List Member) → At_ (At s) (Between b (suc n)) xs → Within q (At_ (At (Block b)) (Done BD)) xs
     begun s e xs r =
         go_step laws fields tiles p meta config image blocks good whole chunk_some cs apart some q few fits q_some (At s) (Between b (suc n)) (Block b) (block_request fields tiles p meta image u blocks good q few whole chunk_some b)
         (BlockW fields tiles p meta image u blocks good q few whole chunk_some b n) BD (block_asking fields tiles p meta image u blocks good q few whole chunk_some b n c total) (λ rs. refl) block_begins
         (next_leads laws fields tiles p meta config image blocks good whole chunk_some cs apart some q few fits q_some s (Block b) (Between b (suc n)) (between_is b (suc n)) (counts_done s e) (λ rs. refl)
-            (λ ps h le. after_is s e (map receiver_in ps) (no_chunks (Between b (suc n)) (λ x w. no_chunk x (lacking_from b (suc n)) w.chunks w.none w.row) ps h) ∙ next_is b n sum ps h le)) xs r
+        (λ ps h le. after_is s e (map receiver_in ps) (no_chunks (Between b (suc n)) (λ x w. no_chunk x (lacking_from b (suc n)) w.chunks w.none w.row) ps h) ∙ next_is b n sum ps h le)) xs r
 
     -- ---- its chunks
 
@@ -162,7 +162,8 @@ module _ (laws : KeepsPlan) (fields : FieldsAreRead) (tiles : Tiles) (p : Sendin
     chunks_begin : (x : Pair) → Done BD x → IsChunking 0 (suc c) (begins laws p meta config image (Chunks b) x)
     chunks_begin x h = (
       row_begun laws fields tiles p meta config image blocks good whole chunk_some cs apart some q few fits q_some (Chunks b) 2 (lacking_from b (suc n)) (every_number (suc c)) x h.2.0 refl,
-      chunked_longer fields tiles p meta image u blocks good q few whole chunk_some b n 0 (suc c) h.0 q (begins laws p meta config image (Chunks b) x) h.1 (in_block_at (Chunks b) h.0 x h.2.1))
+      chunked_longer fields tiles p meta image u blocks good q few whole chunk_some b n 0 (suc c) h.0 q (begins laws p meta config image (Chunks b) x) h.1 (in_block_at (Chunks b) h.0 x h.2.1),
+    )
 
     some_chunks : (ps : List Pair) → AllByRecursion (Done BD) ps → 1 ≤ length ps → list_any misses_chunks (map receiver_in ps) ≡ true
     some_chunks [] h le = absurd (omega (arith, le))
@@ -187,17 +188,18 @@ module _ (laws : KeepsPlan) (fields : FieldsAreRead) (tiles : Tiles) (p : Sendin
         let long = configs_length laws fields tiles p meta config image blocks good whole chunk_some cs apart some q few fits q_some r.qs in
         let counted : length (configs r.qs) ≡ length cs = ap (length {A = NodeConfig}) r.same in
         let leads = next_leads laws fields tiles p meta config image blocks good whole chunk_some cs apart some q few fits q_some (Block b) (Chunks b) (Done BD)
-            (λ x k. row_is laws fields tiles p meta config image blocks good whole chunk_some cs apart some q few fits q_some 2 (lacking_from b (suc n)) (every_number (suc c)) false x k.2.0)
-            (λ z. refl) (λ rs. refl) to_chunks r.qs r.all (omega (arith, long, counted, some)) in
+        (λ x k. row_is laws fields tiles p meta config image blocks good whole chunk_some cs apart some q few fits q_some 2 (lacking_from b (suc n)) (every_number (suc c)) false x k.2.0)
+        (λ z. refl) (λ rs. refl) to_chunks r.qs r.all (omega (arith, long, counted, some)) in
         let same_b : configs bs ≡ cs = begun_configs (Chunks b) r.qs ∙ r.same in
         let all_b : AllByRecursion (IsChunking 0 (suc c)) bs =
-            all_begin laws fields tiles p meta config image blocks good whole chunk_some cs apart some q few fits q_some (Done BD) (IsChunking 0 (suc c)) (Chunks b) chunks_begin r.qs r.all in
+        all_begin laws fields tiles p meta config image blocks good whole chunk_some cs apart some q few fits q_some (Done BD) (IsChunking 0 (suc c)) (Chunks b) chunks_begin r.qs r.all in
         let list = lists b c total (lacking_from b (suc n)) bs (only_rows bs all_b) same_b in
         let next = turn_next laws p meta config image (At (Block b)) r.qs xs r.station (Chunks b) leads in
         let done = begin_chunks laws fields tiles p meta config image blocks good q few whole chunk_some to b n c total mc bs (turn xs) (first_items laws p meta config image (Chunks b) bs) list next
-            (subst (AllByRecursion (Reaches to)) (sym same_b) reached) all_b le_c in
+        (subst (AllByRecursion (Reaches to)) (sym same_b) reached) all_b le_c in
         by_turn mc (At_ (At (Chunks b)) (IsChunking (suc c) 0)) xs (record {
-          turns = done.turns; few = done.few;
+          turns = done.turns;
+          few = done.few;
           then_is = (let f = done.then_is in record { qs = f.qs; station = f.station; all = f.all; same = f.same ∙ same_b });
         })
 
@@ -216,15 +218,16 @@ module _ (laws : KeepsPlan) (fields : FieldsAreRead) (tiles : Tiles) (p : Sendin
     get_begins : (x : Pair) → IsChunking (suc c) 0 x → GetW fields tiles p meta image u blocks good q few whole chunk_some b n c 0 (begins laws p meta config image (Get b) x)
     get_begins x h = (
       row_begun_by laws fields tiles p meta config image blocks good whole chunk_some cs apart some q few fits q_some true (Get b) 2 (lacking_from b (suc n)) (every_number (suc c)) x h.0 refl,
-      after_begins n x h.1)
+      after_begins n x h.1,
+    )
 
     got : (xs : List Member) → At_ (At (Chunks b)) (IsChunking (suc c) 0) xs → Within q (At_ (At (Get b)) (Done GD)) xs
     got xs r =
         go_step laws fields tiles p meta config image blocks good whole chunk_some cs apart some q few fits q_some (At (Chunks b)) (IsChunking (suc c) 0) (Get b) (OfBlob BlockGet)
         (GetW fields tiles p meta image u blocks good q few whole chunk_some b n c) GD (get_asking fields tiles p meta image u blocks good q few whole chunk_some b n c total sum) (λ rs. refl) get_begins
         (λ ps h le. leads_on laws p meta config image (Chunks b) (Get b) ps (λ began moment. refl) refl
-            (some_active laws fields tiles p meta config image blocks good whole chunk_some cs apart some q few fits q_some (IsChunking (suc c) 0)
-                (λ x k. (row_is laws fields tiles p meta config image blocks good whole chunk_some cs apart some q few fits q_some 2 (lacking_from b (suc n)) (every_number (suc c)) true x k.0).1) ps h le)) xs r
+        (some_active laws fields tiles p meta config image blocks good whole chunk_some cs apart some q few fits q_some (IsChunking (suc c) 0)
+        (λ x k. (row_is laws fields tiles p meta config image blocks good whole chunk_some cs apart some q few fits q_some 2 (lacking_from b (suc n)) (every_number (suc c)) true x k.0).1) ps h le)) xs r
 
     -- A BLOCK
     pub one_block : (s : Step) → EndsBlock s → (xs : List Member) → At_ (At s) (Between b (suc n)) xs → Within (q + (suc mc + q)) (At_ (At (Get b)) (Done GD)) xs
@@ -243,7 +246,10 @@ module _ (laws : KeepsPlan) (fields : FieldsAreRead) (tiles : Tiles) (p : Sendin
 
   to_between : (b n c : ℕ) (x : Pair) → Done (GetD fields tiles p meta image u blocks good q few whole chunk_some b (suc n) c) x → Between (suc b) (suc n) x
   to_between b n c x h = record {
-    chunks = no_number (suc c); none = none_some (suc c); row = h.2.0; before = Some (last b);
+    chunks = no_number (suc c);
+    none = none_some (suc c);
+    row = h.2.0;
+    before = Some (last b);
     runs = runs_longer fields p meta image u blocks good q few (held (suc b) (suc n)) (Some (last b)) (0 + h.0) q x (let le = h.1 in omega (arith, le)) h.2.1;
   }
 
@@ -264,16 +270,19 @@ module _ (laws : KeepsPlan) (fields : FieldsAreRead) (tiles : Tiles) (p : Sendin
       let one = one_block b 0 k.0 sum k.1 k.2 s e xs r in
       more_room (q + (suc mc + q)) (1 * (q + (suc mc + q))) Ended_blocks xs (omega arith)
       (so (q + (suc mc + q)) (At_ (At (Get b)) (Done (GetD fields tiles p meta image u blocks good q few whole chunk_some b 0 k.0))) Ended_blocks xs
-        (λ ys t. record { b = b; c = k.0; held_all = reached_as (At (Get b)) _ (AllHeld k.0) (to_all b k.0 (omega (arith, sum))) ys t }) one)
+      (λ ys t. record { b = b; c = k.0; held_all = reached_as (At (Get b)) _ (AllHeld k.0) (to_all b k.0 (omega (arith, sum))) ys t }) one)
   all_blocks (suc n) b s e sum xs r =
       let k = counts b (omega (arith, sum)) in
       let one = one_block b (suc n) k.0 sum k.1 k.2 s e xs r in
       let both = and_then (q + (suc mc + q)) (suc n * (q + (suc mc + q))) (At_ (At (Get b)) (Done (GetD fields tiles p meta image u blocks good q few whole chunk_some b (suc n) k.0))) Ended_blocks xs one
-          (λ ys t. all_blocks n (suc b) (Get b) tt (omega (arith, sum)) ys (reached_as (At (Get b)) _ (Between (suc b) (suc n)) (to_between b n k.0) ys t)) in
+      (λ ys t. all_blocks n (suc b) (Get b) tt (omega (arith, sum)) ys (reached_as (At (Get b)) _ (Between (suc b) (suc n)) (to_between b n k.0) ys t)) in
       more_room ((q + (suc mc + q)) + suc n * (q + (suc mc + q))) (suc (suc n) * (q + (suc mc + q))) Ended_blocks xs (omega arith) both
 
   pub first_between : (x : Pair) → Done (TransferD fields p meta image u blocks good q few) x → Between 0 (suc blocks) x
   first_between x h = record {
-    chunks = []; none = refl; row = h.2.0; before = None;
+    chunks = [];
+    none = refl;
+    row = h.2.0;
+    before = None;
     runs = runs_longer fields p meta image u blocks good q few (held 0 (suc blocks)) None h.0 q x h.1 h.2.1;
   }

@@ -1,26 +1,25 @@
 -- A node along an update in which nothing is lost: what time and each request make of it.
-use Rattle.std.proofs.Common.{◌≡◌, ◌<◌, ◌≤◌, ◌+◌, ◌-◌, ◌*◌, ◌^◌, ◌==◌, ℕ, zero, suc, List, [], ◌∷◌, ◌++◌, refl, sym, ap, ◌∙◌, subst, true, false, Bool, Option, Some, None, arith, map, max, min, length}
-use Rattle.std.specs.Prelude.{◌&&◌, ◌||◌, not, if◌then◌else◌, nat_lt, nat_le, is_some, is_none}
-use Rattle.std.proofs.lemmas.Bool.{eq-eqb, eqb-true}
+use Rattle.std.proofs.Common.{◌≡◌, ◌<◌, ◌≤◌, ◌+◌, ◌*◌, ◌==◌, ℕ, suc, List, [], ◌∷◌, refl, ap, ◌∙◌, true, false, Option, Some, None, arith, max, length}
+use Rattle.std.specs.Prelude.{◌||◌, nat_lt, nat_le}
+use Rattle.std.proofs.lemmas.Bool.{eq-eqb}
 use Rattle.std.proofs.lemmas.Bool.Decides.{nat_tests}
 use Rattle.mu_model_image.specs.declared.Meta.{Meta}
 use Rattle.mu_model_image.specs.Meta.{Image, meta_octets, meta_from, is_fit, firmware_id, own_company}
-use Rattle.mu_model_image.specs.Pieces.{block_count, block_length, chunk_count, chunk_length, piece_count}
-use Rattle.mu_model_wire.specs.Reports.{every_number}
+use Rattle.mu_model_image.specs.Pieces.{block_length, chunk_length}
 use Rattle.mu_model_wire.specs.declared.reports.Report.TheVariants.{All, Nothing}
 use Rattle.mu_model_node.specs.declared.Parameters.{Parameters}
 use Rattle.mu_model_node.specs.declared.Link.{Link}
 use Rattle.mu_model_node.specs.declared.Link.TheVariants.{Cut, Ready, Running}
 use Rattle.mu_model_node.specs.declared.LastBlock.{LastBlock}
 use Rattle.mu_model_node.specs.declared.Stored.{Stored}
-use Rattle.mu_model_node.specs.declared.Stored.TheVariants.{Filling, Verified, Refused, Applied}
+use Rattle.mu_model_node.specs.declared.Stored.TheVariants.{Filling, Verified, Applied}
 use Rattle.mu_model_node.specs.Slots.{Slots, empty, at, put, is_full, missing, joined}
-use Rattle.mu_model_node.specs.BlobMessages.{BlobRequest, BlobInformationGet, TransferStart, BlockStart, BlockGet, ChunkTransfer, BlobReply, BlobInformationStatus, TransferStatus, BlockStatus, own_mtu}
-use Rattle.mu_model_node.specs.UpdateMessages.{UpdateRequest, InformationGet, MetadataCheck, StartUpdate, UpdateGet, UpdateApply, ShownJob, UpdateReply, InformationStatus, MetadataStatus, UpdateStatus}
+use Rattle.mu_model_node.specs.BlobMessages.{BlobInformationGet, TransferStart, BlockStart, BlockGet, ChunkTransfer, BlobInformationStatus, TransferStatus, BlockStatus, own_mtu}
+use Rattle.mu_model_node.specs.UpdateMessages.{InformationGet, MetadataCheck, StartUpdate, UpdateGet, UpdateApply, ShownJob, InformationStatus, MetadataStatus, UpdateStatus}
 use Rattle.mu_model_node.specs.NodeMessages.{Request, OfUpdate, OfBlob, Reply, ByUpdate, ByBlob}
-use Rattle.mu_model_node.specs.BlobServer.{CurrentBlock, PullReport, Session}
+use Rattle.mu_model_node.specs.BlobServer.{CurrentBlock, Session}
 use Rattle.mu_model_node.specs.FlashWork.{fresh_after}
-use Rattle.mu_model_node.specs.NodeState.{Job, NodeDurable, NodeState, update_phase}
+use Rattle.mu_model_node.specs.NodeState.{Job, NodeState, update_phase}
 use Rattle.mu_model_node.specs.NodeOutcome.{Outcome}
 use Rattle.mu_model_node.specs.Events.{at_moment, on_request}
 use Rattle.mu_model_node.specs.TimeTable.{on_time}

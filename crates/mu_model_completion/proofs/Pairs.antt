@@ -1,10 +1,10 @@
 -- An updater's receivers with their nodes, and what a turn makes of each pair.
-use Rattle.std.proofs.Common.{◌≡◌, ◌+◌, ◌≤◌, ◌==◌, ℕ, zero, suc, List, [], ◌∷◌, ◌++◌, refl, sym, ap, ◌∙◌, subst, true, false, Bool, Option, Some, None, arith, map, max}
-use Rattle.std.specs.Prelude.{◌&&◌, ◌||◌, not, if◌then◌else◌}
+use Rattle.std.proofs.Common.{◌≡◌, ◌+◌, ◌==◌, ℕ, List, [], ◌∷◌, ◌++◌, refl, sym, ap, ◌∙◌, subst, true, false, Bool, Option, Some, None, arith, map}
+use Rattle.std.specs.Prelude.{if◌then◌else◌}
 use Rattle.std.specs.List.{flat_map, AllByRecursion}
-use Rattle.std.proofs.lemmas.Bool.{eq-eqb, eqb-true}
+use Rattle.std.proofs.lemmas.Bool.{eqb-true}
 use Rattle.mu_model_node.specs.declared.NodeConfig.{NodeConfig}
-use Rattle.mu_model_node.specs.NodeMessages.{Request, Reply}
+use Rattle.mu_model_node.specs.NodeMessages.{Reply}
 use Rattle.mu_model_node.specs.NodeState.{NodeState, update_phase}
 use Rattle.mu_model_node.specs.NodeOutcome.{Outcome}
 use Rattle.mu_model_node.specs.Events.{at_moment, on_request}
@@ -15,8 +15,8 @@ use Rattle.mu_model_client.specs.Due as d
 use Rattle.mu_model_client.specs.Due.{Due, due}
 use Rattle.mu_model_client_laws.specs.Laws.{KeepsPlan}
 pub use Rattle.mu_model_completion.specs.Completion.{IsQuiet, AllQuiet}
-use Rattle.mu_model_completion.specs.Turn.{Member, Part, IsNode, IsUpdater, Body, Asks, Replies, Sent, Moved, asked_by, replied_by, later, part_timed, node_given, updater_given, part_given, is_for, given_if, after_packet, answers_to, delivered, answers, after_time, sent_in_time, deliveries, turn}
-use Rattle.mu_model_completion.proofs.Local.{at_address, mapped, Distinct, at_mapped, distinct_mapped, time_keeps, packet_keeps, takes_keeps, config_kept, takes, delivered_is, tells, tells_append, tells_kept, tells_some, tells_answers, own, time_from, updater_at, with_receivers, client_told}
+use Rattle.mu_model_completion.specs.Turn.{Member, Part, IsNode, IsUpdater, Body, Asks, Replies, Sent, asked_by, replied_by, later, part_timed, node_given, updater_given, part_given, is_for, given_if, after_packet, answers_to, delivered, answers, after_time, sent_in_time, turn}
+use Rattle.mu_model_completion.proofs.Local.{at_address, mapped, Distinct, at_mapped, distinct_mapped, time_keeps, takes_keeps, config_kept, takes, delivered_is, tells, tells_append, tells_kept, tells_some, tells_answers, own, time_from, updater_at, client_told}
 
 -- ---- members that ask nothing
 
@@ -38,8 +38,8 @@ all_append P (x ∷ xs) ys h k = (h.0, all_append P xs ys h.1 k)
 true_false : {A : Type 0} → false ≡ true → A
 true_false h = absurd (no h)
   where
-  no : false ≡ true → ⊥
-  no e = grind (arith, e)
+    no : false ≡ true → ⊥
+    no e = grind (arith, e)
 
 record Rested (c : Client) (image : List ℕ) (e : Due) : Type 0 where
   ended : is_ended e.next.place ≡ true
@@ -201,8 +201,8 @@ module _ (v : Client) (u : ℕ) where
   not_here : (u : ℕ) (x : Member) (xs : List Member) (here : Bool) → (if here then Some x else at_address u xs) ≡ None → (here ≡ false) × (at_address u xs ≡ None)
   not_here u x xs true h = absurd (some_none h)
     where
-    some_none : Some x ≡ None → ⊥
-    some_none e = grind (arith, e)
+      some_none : Some x ≡ None → ⊥
+      some_none e = grind (arith, e)
   not_here u x xs false h = (refl, h)
 
   quiet_sends : (x : Member) → ((x.config.address == u) ≡ false → IsQuiet x.part) → (x.config.address == u) ≡ false → AllReplies (sent_in_time x)
@@ -321,9 +321,9 @@ module _ (laws : KeepsPlan) (config : NodeConfig) (image : List ℕ) (now : ℕ)
     pair_node =
         let timed_is : at_address x.config.address timed_all ≡ Some (node_in timed_x) = found_timed x.config.address (node_in x) k.node in
         let reached : takes sent (node_in timed_x) ≡ node_in (pair_turn e.next u g sends x) =
-            items_after e.next u sent timed_x ∙ ap node_in (items_sent e.next u _ xs timed_x h.quiet h.distinct h.updater ∙ ap (λ (z : Due). pair_items e.next u (map (asked_by config.address) z.packets) timed_x) is_due) in
+        items_after e.next u sent timed_x ∙ ap node_in (items_sent e.next u _ xs timed_x h.quiet h.distinct h.updater ∙ ap (λ (z : Due). pair_items e.next u (map (asked_by config.address) z.packets) timed_x) is_due) in
         let quiet_back : takes back (node_in (pair_turn e.next u g sends x)) ≡ node_in (pair_turn e.next u g sends x) =
-            items_after e.next u back (pair_turn e.next u g sends x) ∙ ap node_in (items_replies e.next u back (pair_turn e.next u g sends x) (answers_reply sent timed_all)) in
+        items_after e.next u back (pair_turn e.next u g sends x) ∙ ap node_in (items_replies e.next u back (pair_turn e.next u g sends x) (answers_reply sent timed_all)) in
         found_last x.config.address (node_in timed_x) timed_is ∙ ap Some (ap (takes back) reached ∙ quiet_back)
 
     pub pair_receiver : tells e.next u back (tells e.next u sent (g x.r)) ≡ (pair_turn e.next u g sends x).r
@@ -333,7 +333,7 @@ module _ (laws : KeepsPlan) (config : NodeConfig) (image : List ℕ) (now : ℕ)
         let first : tells e.next u sent (g x.r) ≡ timed_x.r = tells_some e.next u laws sent_in_time (time_from e.next u laws) (node_in x) xs (g x.r) h.distinct before in
         let later_place : timed_x.r.row.address ≡ x.config.address = tells_kept e.next u laws (sent_in_time (node_in x)) (g x.r) ∙ place in
         let after : at_address timed_x.r.row.address timed_all ≡ Some (node_in timed_x) =
-            ap (λ a. at_address a timed_all) later_place ∙ found_timed x.config.address (node_in x) k.node in
+        ap (λ a. at_address a timed_all) later_place ∙ found_timed x.config.address (node_in x) k.node in
         ap (tells e.next u back) first
         ∙ (tells_answers e.next u laws sent timed_all (node_in timed_x) timed_x.r distinct_timed after
         ∙ (items_told e.next u laws sent timed_x
@@ -360,18 +360,18 @@ module _ (laws : KeepsPlan) (config : NodeConfig) (image : List ℕ) (now : ℕ)
   all_told [] k = refl
   all_told (y ∷ ys) k = cons_same (pair_receiver y k.0) (all_told ys k.1)
     where
-    cons_same : {x y : Receiver} {xs ys : List Receiver} → x ≡ y → xs ≡ ys → (x ∷ xs) ≡ (y ∷ ys)
-    cons_same e f = rw (e, f) refl
+      cons_same : {x y : Receiver} {xs ys : List Receiver} → x ≡ y → xs ≡ ys → (x ∷ xs) ≡ (y ∷ ys)
+      cons_same e f = rw (e, f) refl
 
   updater_after : at_address u (turn xs) ≡ Some (updater_at u image config refl (now + 100) (record (e.next) { receivers = map receiver_in next_pairs }))
   updater_after =
       let timed_is : at_address u timed_all ≡ Some (updater_at u image config refl (now + 100) e.next) =
-          found_timed u _ h.updater ∙ ap (λ (z : Due). Some (updater_at u image config refl (now + 100) z.next)) is_due in
+      found_timed u _ h.updater ∙ ap (λ (z : Due). Some (updater_at u image config refl (now + 100) z.next)) is_due in
       let first : takes sent (updater_at u image config refl (now + 100) e.next) ≡ updater_at u image config refl (now + 100) (record (e.next) { receivers = map (tells e.next u sent) e.next.receivers }) =
-          client_told u image config refl (now + 100) e.next moment sent e.next.receivers in
+      client_told u image config refl (now + 100) e.next moment sent e.next.receivers in
       let second = client_told u image config refl (now + 100) e.next moment back (map (tells e.next u sent) e.next.receivers) in
       let told_is : map (tells e.next u back) (map (tells e.next u sent) e.next.receivers) ≡ map receiver_in next_pairs =
-          ap (λ rs. map (tells e.next u back) (map (tells e.next u sent) rs)) (same ∙ ap (map g) h.receivers) ∙ all_told ps h.here in
+      ap (λ rs. map (tells e.next u back) (map (tells e.next u sent) rs)) (same ∙ ap (map g) h.receivers) ∙ all_told ps h.here in
       found_last u _ timed_is ∙ ap Some (ap (takes back) first ∙ (second ∙ ap (λ rs. updater_at u image config refl (now + 100) (record (e.next) { receivers = rs })) told_is))
 
   quiet_after : AllQuiet u (turn xs)

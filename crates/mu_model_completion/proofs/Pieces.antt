@@ -1,9 +1,7 @@
 -- Places that fill up in order, and sets of what is missing that empty in order.
-use Rattle.std.proofs.Common.{◌≡◌, ◌⊎◌, inl, inr, ◌<◌, ◌≤◌, ◌+◌, ◌-◌, ◌*◌, ◌/◌, ◌^◌, ◌==◌, ℕ, zero, suc, List, [], ◌∷◌, ◌++◌, refl, sym, ap, ◌∙◌, subst, true, false, Bool, Option, Some, None, arith, map, min, length, take, drop, append-nil, set, cond}
-use Rattle.std.specs.Prelude.{◌&&◌, ◌||◌, not, nat_lt, nat_le, replicate, if◌then◌else◌, find}
-use Rattle.std.specs.List.{flat_map, range_with_len, list_any, list_all, concat}
-use Rattle.std.proofs.lemmas.Bool.{eq-eqb, eqb-true}
-use Rattle.std.proofs.lemmas.Bool.Decides.{nat_tests}
+use Rattle.std.proofs.Common.{◌≡◌, ◌⊎◌, inl, inr, ◌<◌, ◌≤◌, ◌+◌, ◌-◌, ◌*◌, ℕ, zero, suc, List, [], ◌∷◌, ◌++◌, refl, sym, ap, ◌∙◌, subst, true, false, Bool, Some, None, arith, map, length, append-nil, set, cond}
+use Rattle.std.specs.Prelude.{replicate, find}
+use Rattle.std.specs.List.{range_with_len, concat}
 use Rattle.std.proofs.Math.Nat.{le-div_iff_mul-le, div-mul-le_self}
 use Rattle.mu_model_image.specs.Pieces.{piece_count}
 use Rattle.mu_model_wire.specs.Reports.{has}
@@ -83,9 +81,9 @@ next_cases i b le = grind arith
 find_from : (t : ℕ → Bool) (n i b : ℕ) → i ≤ b → b < i + n → ((k : ℕ) → k < b → t k ≡ false) → t b ≡ true → find t (range_with_len i n) ≡ Some b
 find_from t zero i b low high none here = absurd (omega (arith, low, high))
 find_from t (suc n) i b low high none here = elim (next_cases i b low) [
-    | inl e ↦ ap (λ c. cond c (Some i) (find t (range_with_len (i + 1) n))) (ap t (sym e) ∙ here) ∙ ap Some (sym e)
-    | inr l ↦ ap (λ c. cond c (Some i) (find t (range_with_len (i + 1) n))) (none i (omega (arith, l))) ∙ find_from t n (i + 1) b l (omega (arith, high)) none here
-  ]
+  | inl e ↦ ap (λ c. cond c (Some i) (find t (range_with_len (i + 1) n))) (ap t (sym e) ∙ here) ∙ ap Some (sym e)
+  | inr l ↦ ap (λ c. cond c (Some i) (find t (range_with_len (i + 1) n))) (none i (omega (arith, l))) ∙ find_from t n (i + 1) b l (omega (arith, high)) none here
+]
 
 pub find_least : (t : ℕ → Bool) (n b : ℕ) → b < n → ((k : ℕ) → k < b → t k ≡ false) → t b ≡ true → find t (range_with_len 0 n) ≡ Some b
 find_least t n b lt none here = find_from t n 0 b (omega arith) (omega (arith, lt)) none here

@@ -1,7 +1,7 @@
 -- A receiver along an update in which nothing is lost: what the answers of its node make of it.
-use Rattle.std.proofs.Common.{◌≡◌, ◌<◌, ◌≤◌, ◌+◌, ◌-◌, ◌*◌, ◌^◌, ◌==◌, ℕ, zero, suc, List, [], ◌∷◌, ◌++◌, refl, sym, ap, ◌∙◌, subst, true, false, Bool, Option, Some, None, arith, map, max, min, length, set, cond, ◌/◌}
-use Rattle.std.specs.Prelude.{◌&&◌, ◌||◌, not, if◌then◌else◌, nat_lt, nat_le, is_some, is_none, bytes_eq, replicate}
-use Rattle.std.proofs.lemmas.Bool.{eq-eqb, eqb-true}
+use Rattle.std.proofs.Common.{◌≡◌, ◌<◌, ◌-◌, ◌*◌, ◌==◌, ℕ, zero, suc, List, [], ◌∷◌, refl, sym, ap, ◌∙◌, true, false, Bool, Some, arith, map, length, set, cond, ◌/◌}
+use Rattle.std.specs.Prelude.{◌||◌, nat_lt, nat_le, bytes_eq}
+use Rattle.std.proofs.lemmas.Bool.{eq-eqb}
 use Rattle.std.proofs.lemmas.Bool.Decides.{nat_tests}
 use Rattle.std.proofs.lemmas.Slice.Eq.{bytes_eq-Decides}
 use Rattle.std.proofs.lemmas.List.{length-replicate}
@@ -9,21 +9,19 @@ use Rattle.std.proofs.lemmas.List.Folds.{sum_by-replicate}
 use Rattle.std.proofs.Math.Nat.{mul-div_cancel}
 use Rattle.mu_model_image.specs.declared.Meta.{Meta}
 use Rattle.mu_model_image.specs.Meta.{firmware_id, own_company}
-use Rattle.mu_model_wire.specs.Reports.{has, every_number, no_number, bit_field}
+use Rattle.mu_model_wire.specs.Reports.{every_number, no_number, bit_field}
 use Rattle.mu_model_wire.specs.declared.reports.Report.TheVariants.{All, Nothing}
-use Rattle.mu_model_node.specs.Slots.{Slots, empty, missing}
+use Rattle.mu_model_node.specs.Slots.{empty, missing}
 use Rattle.mu_model_node.specs.BlobMessages.{BlobInformationStatus, TransferStatus, BlockStatus}
 use Rattle.mu_model_node.specs.UpdateMessages.{InformationStatus, MetadataStatus, UpdateStatus}
 use Rattle.mu_model_node.specs.NodeMessages.{Reply, ByUpdate, ByBlob}
 use Rattle.mu_model_client.specs.Answers.{heard}
 use Rattle.mu_model_client.specs.Sets.{has_some, size_of, set_of_field}
-use Rattle.mu_model_client.specs.Rows.{Row}
 use Rattle.mu_model_client.specs.declared.Sending.{Sending}
-use Rattle.mu_model_client.specs.Client.{Client, Receiver, Standing, Active, Purpose, Update, Place, At, Step, Check, Start, Information, Transfer, Block, Chunks, Get, Verify, Apply, Confirm, block_total, chunk_total, full_chunks}
+use Rattle.mu_model_client.specs.Client.{Client, Receiver, Active, Update, At, Step, Check, Start, Information, Transfer, Block, Get, Verify, Apply, Confirm, block_total, chunk_total, full_chunks}
 use Rattle.mu_model_client.specs.Told as t
-use Rattle.mu_model_client.specs.Due as d
 use Rattle.mu_model_client_laws.specs.Laws.{FieldsAreRead}
-use Rattle.mu_model_completion.specs.Turn.{Sent, replied_by, Replies}
+use Rattle.mu_model_completion.specs.Turn.{replied_by}
 use Rattle.mu_model_completion.proofs.Local.{tells}
 use Rattle.mu_model_completion.proofs.Nodes.{same, shown, parameters}
 
@@ -95,7 +93,7 @@ module _ (p : Sending) (meta : Meta) where
       ≡ rcv a 2 (every_number n) chunks false
   told_transfer laws a n blocks chunks e =
       let read : set_of_field (block_total p) (bit_field (missing (empty n))) ≡ Some (every_number n) =
-          ap (λ xs. set_of_field (block_total p) (bit_field xs)) (missing_empty n) ∙ (ap (λ m. set_of_field m (bit_field (every_number n))) (e ∙ sym (length-replicate n true)) ∙ laws (every_number n)) in
+      ap (λ xs. set_of_field (block_total p) (bit_field xs)) (missing_empty n) ∙ (ap (λ m. set_of_field m (bit_field (every_number n))) (e ∙ sym (length-replicate n true)) ∙ laws (every_number n)) in
       rw (same p.id, same p.size, same p.log, read) refl
 
   pub told_block : (a b n : ℕ) (blocks chunks : List Bool) → chunk_total p b ≡ suc n

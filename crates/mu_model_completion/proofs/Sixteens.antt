@@ -1,22 +1,21 @@
 -- The chunks of a block, sixteen a turn, to a target that reaches every node.
-use Rattle.std.proofs.Common.{◌≡◌, ◌⊎◌, inl, inr, ◌<◌, ◌≤◌, ◌+◌, ◌-◌, ◌*◌, ◌==◌, ℕ, zero, suc, List, [], ◌∷◌, ◌++◌, refl, sym, ap, ◌∙◌, subst, true, false, Bool, Option, Some, None, arith, map, max, min, length, take, drop}
-use Rattle.std.specs.Prelude.{◌&&◌, ◌||◌, not, if◌then◌else◌}
-use Rattle.std.specs.List.{list_any, flat_map, range_with_len, AllByRecursion}
+use Rattle.std.proofs.Common.{◌≡◌, ◌<◌, ◌≤◌, ◌+◌, ◌-◌, ◌*◌, ◌==◌, ℕ, zero, suc, List, [], ◌∷◌, refl, sym, ap, ◌∙◌, subst, true, arith, map, min, length, take, drop}
+use Rattle.std.specs.Prelude.{◌&&◌, ◌||◌, not}
+use Rattle.std.specs.List.{range_with_len, AllByRecursion}
 use Rattle.mu_model_image.specs.declared.Meta.{Meta}
-use Rattle.mu_model_wire.specs.Reports.{has, every_number}
+use Rattle.mu_model_wire.specs.Reports.{every_number}
 use Rattle.mu_model_node.specs.declared.NodeConfig.{NodeConfig}
-use Rattle.mu_model_node.specs.Events.{at_moment, on_request}
 use Rattle.mu_model_client.specs.declared.Sending.{Sending}
-use Rattle.mu_model_client.specs.Client.{Client, Receiver, Item, Says, Sends, Purpose, Update, Place, At, Step, Chunks, chunk_total}
+use Rattle.mu_model_client.specs.Client.{Item, Sends, At, Chunks, chunk_total}
 use Rattle.mu_model_client.specs.Lists.{sent_for}
 use Rattle.mu_model_client_laws.specs.Laws.{KeepsPlan, FieldsAreRead}
-use Rattle.mu_model_completion.specs.Turn.{Member, Sent, asked_by, is_for, turn, settle}
-use Rattle.mu_model_completion.proofs.Pairs.{Pair, receiver_in, node_in, answered_by, pair_if, pair_item, pair_items, pair_time, items_config}
+use Rattle.mu_model_completion.specs.Turn.{Member, asked_by, turn}
+use Rattle.mu_model_completion.proofs.Pairs.{Pair, answered_by, pair_if, pair_item, pair_items, pair_time, items_config}
 use Rattle.mu_model_completion.proofs.Nodes.{asks}
 use Rattle.mu_model_completion.proofs.Receivers.{view, rcv}
 use Rattle.mu_model_completion.proofs.Stations.{Within, at_once, by_turn, Station, sent_all, turn_in, turn_rest}
 use Rattle.mu_model_completion.proofs.Asking.{configs}
-use Rattle.mu_model_completion.proofs.First.{Good, Row, row_later}
+use Rattle.mu_model_completion.proofs.First.{Good, Row}
 use Rattle.mu_model_completion.proofs.Pieces.{lacking_from}
 use Rattle.mu_model_completion.proofs.Blocks.{Tiles, chunk_request, Chunked, chunked_longer, chunk_taken, in_block_later}
 
@@ -64,7 +63,7 @@ module _ (laws : KeepsPlan) (fields : FieldsAreRead) (tiles : Tiles) (p : Sendin
   one k rem a x reached sum h =
       let t = chunk_taken fields tiles p meta image u blocks good most few whole chunk_some b n c total k x a rem sum h in
       let e : pair_item (view p meta (Chunks b)) u (asked_by u (sent_for p image (Sends to b k))) x ≡ answered_by (view p meta (Chunks b)) u x (asks x.n u (chunk_request fields tiles p meta image u blocks good most few whole chunk_some b k) x.moment) =
-          ap (λ z. pair_if (view p meta (Chunks b)) u (asked_by u (sent_for p image (Sends to b k))) x z) reached in
+      ap (λ z. pair_if (view p meta (Chunks b)) u (asked_by u (sent_for p image (Sends to b k))) x z) reached in
       (subst (IsChunked (suc k) rem 0) (sym e) t.0, ap (λ (y : Pair). y.r) e ∙ t.1)
 
   record Row_of (k rem a : ℕ) (x y : Pair) : Type 0 where
@@ -126,7 +125,7 @@ module _ (laws : KeepsPlan) (fields : FieldsAreRead) (tiles : Tiles) (p : Sendin
       let y : Pair = pair_time (view p meta (Chunks b)) u x in
       let r = heard_now j k rem (suc most) y reached sum le t.0 in
       let row : Row 2 (lacking_from b (suc n)) (every_number (suc c)) true (turned_pair k (suc j) x) =
-          record { r_is = r.same ∙ (t.1 ∙ (h.0.r_is ∙ ap (λ (s : NodeConfig). rcv s.address 2 (lacking_from b (suc n)) (every_number (suc c)) true) (sym r.place))) } in
+      record { r_is = r.same ∙ (t.1 ∙ (h.0.r_is ∙ ap (λ (s : NodeConfig). rcv s.address 2 (lacking_from b (suc n)) (every_number (suc c)) true) (sym r.place))) } in
       ((row, chunked_longer fields tiles p meta image u blocks good most few whole chunk_some b n (k + suc j) (suc rem - suc j) 0 most (turned_pair k (suc j) x) (omega arith) r.node), r.place)
 
   all_turn : (j k rem : ℕ) (ps : List Pair) → AllByRecursion (Reaches to) (configs ps) → k + suc rem ≡ suc c → j ≤ rem → AllByRecursion (Chunking k (suc rem)) ps
@@ -137,8 +136,8 @@ module _ (laws : KeepsPlan) (fields : FieldsAreRead) (tiles : Tiles) (p : Sendin
       let r = all_turn j k rem ps reached.1 sum le h.1 in
       ((t.0, r.0), cons_same t.1 r.1)
     where
-    cons_same : {x y : NodeConfig} {xs ys : List NodeConfig} → x ≡ y → xs ≡ ys → (x ∷ xs) ≡ (y ∷ ys)
-    cons_same e f = rw (e, f) refl
+      cons_same : {x y : NodeConfig} {xs ys : List NodeConfig} → x ≡ y → xs ≡ ys → (x ∷ xs) ≡ (y ∷ ys)
+      cons_same e f = rw (e, f) refl
 
   -- ---- until all chunks are sent
 
@@ -159,13 +158,13 @@ module _ (laws : KeepsPlan) (fields : FieldsAreRead) (tiles : Tiles) (p : Sendin
       let count : min 16 (suc rem) ≡ suc j = omega arith in
       let now : take 16 (chunks_from k (suc rem)) ≡ chunks_from k (suc j) = take_range (λ i. Sends to b i) 16 (suc rem) k ∙ ap (λ i. chunks_from k i) count in
       let later : drop 16 (chunks_from k (suc rem)) ≡ chunks_from (k + suc j) (suc rem - suc j) =
-          drop_range (λ i. Sends to b i) 16 (suc rem) k ∙ ap (λ i. chunks_from (k + i) (suc rem - i)) count in
+      drop_range (λ i. Sends to b i) 16 (suc rem) k ∙ ap (λ i. chunks_from (k + i) (suc rem - i)) count in
       let t = all_turn j k rem ps reached sum (omega arith) h in
       let next : Station laws p meta config image (At (Chunks b)) (drop 16 (chunks_from k (suc rem))) (map (turn_in laws p meta config image (Chunks b) (take 16 (chunks_from k (suc rem)))) ps) (turn xs) =
-          turn_rest laws p meta config image (Chunks b) (Sends to b k) (chunks_from (k + 1) rem) ps xs s (λ began moment. refl) in
+      turn_rest laws p meta config image (Chunks b) (Sends to b k) (chunks_from (k + 1) rem) ps xs s (λ began moment. refl) in
       let here : Station laws p meta config image (At (Chunks b)) (chunks_from (k + suc j) (suc rem - suc j)) (map (turned_pair k (suc j)) ps) (turn xs) =
-          subst (λ items. Station laws p meta config image (At (Chunks b)) items (map (turned_pair k (suc j)) ps) (turn xs)) later
-              (subst (λ items. Station laws p meta config image (At (Chunks b)) (drop 16 (chunks_from k (suc rem))) (map (turn_in laws p meta config image (Chunks b) items) ps) (turn xs)) now next) in
+      subst (λ items. Station laws p meta config image (At (Chunks b)) items (map (turned_pair k (suc j)) ps) (turn xs)) later
+      (subst (λ items. Station laws p meta config image (At (Chunks b)) (drop 16 (chunks_from k (suc rem))) (map (turn_in laws p meta config image (Chunks b) items) ps) (turn xs)) now next) in
       let done = finish_chunks m (k + suc j) (suc rem - suc j) (map (turned_pair k (suc j)) ps) (turn xs) here (subst (AllByRecursion (Reaches to)) (sym t.1) reached) (omega (arith, sum)) t.0 (omega (arith, le)) in
       by_turn m (ChunksSent (configs ps)) xs (record { turns = done.turns; few = done.few; then_is = (let f = done.then_is in record { qs = f.qs; station = f.station; all = f.all; same = f.same ∙ t.1 }) })
 
@@ -178,12 +177,12 @@ module _ (laws : KeepsPlan) (fields : FieldsAreRead) (tiles : Tiles) (p : Sendin
       let count : min 16 (suc c) ≡ suc j = omega arith in
       let now : take 16 (chunks_from 0 (suc c)) ≡ chunks_from 0 (suc j) = take_range (λ i. Sends to b i) 16 (suc c) 0 ∙ ap (λ i. chunks_from 0 i) count in
       let later : drop 16 (chunks_from 0 (suc c)) ≡ chunks_from (0 + suc j) (suc c - suc j) =
-          drop_range (λ i. Sends to b i) 16 (suc c) 0 ∙ ap (λ i. chunks_from (0 + i) (suc c - i)) count in
+      drop_range (λ i. Sends to b i) 16 (suc c) 0 ∙ ap (λ i. chunks_from (0 + i) (suc c - i)) count in
       let t = all_turn j 0 c ps reached (omega arith) (omega arith) h in
       let same : Station laws p meta config image (At (Chunks b)) (drop 16 (chunks_from 0 (suc c))) (map (turn_in laws p meta config image (Chunks b) (take 16 (chunks_from 0 (suc c)))) ps) ys =
-          subst (λ items. Station laws p meta config image (At (Chunks b)) (drop 16 items) (map (turn_in laws p meta config image (Chunks b) (take 16 items)) ps) ys) is s in
+      subst (λ items. Station laws p meta config image (At (Chunks b)) (drop 16 items) (map (turn_in laws p meta config image (Chunks b) (take 16 items)) ps) ys) is s in
       let here : Station laws p meta config image (At (Chunks b)) (chunks_from (0 + suc j) (suc c - suc j)) (map (turned_pair 0 (suc j)) ps) ys =
-          subst (λ items. Station laws p meta config image (At (Chunks b)) items (map (turned_pair 0 (suc j)) ps) ys) later
-              (subst (λ items. Station laws p meta config image (At (Chunks b)) (drop 16 (chunks_from 0 (suc c))) (map (turn_in laws p meta config image (Chunks b) items) ps) ys) now same) in
+      subst (λ items. Station laws p meta config image (At (Chunks b)) items (map (turned_pair 0 (suc j)) ps) ys) later
+      (subst (λ items. Station laws p meta config image (At (Chunks b)) (drop 16 (chunks_from 0 (suc c))) (map (turn_in laws p meta config image (Chunks b) items) ps) ys) now same) in
       let done = finish_chunks m (0 + suc j) (suc c - suc j) (map (turned_pair 0 (suc j)) ps) ys here (subst (AllByRecursion (Reaches to)) (sym t.1) reached) (omega arith) t.0 (omega (arith, le)) in
       record { turns = done.turns; few = done.few; then_is = (let f = done.then_is in record { qs = f.qs; station = f.station; all = f.all; same = f.same ∙ t.1 }) }

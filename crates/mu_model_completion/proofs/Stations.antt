@@ -1,17 +1,16 @@
 -- Where an updater stands between turns, and the two kinds of turn: one that goes on with its list, and one that begins a step.
-use Rattle.std.proofs.Common.{◌≡◌, ◌⊎◌, inl, inr, ◌<◌, ◌≤◌, ◌+◌, ◌*◌, ◌==◌, ℕ, zero, suc, List, [], ◌∷◌, ◌++◌, refl, sym, ap, ◌∙◌, subst, true, false, Bool, Option, Some, None, arith, map, max, length, take, drop}
-use Rattle.std.specs.Prelude.{◌&&◌, ◌||◌, not, if◌then◌else◌}
+use Rattle.std.proofs.Common.{◌≡◌, ◌≤◌, ◌+◌, ℕ, zero, suc, List, [], ◌∷◌, refl, sym, ap, ◌∙◌, subst, true, false, Bool, arith, map, max, take, drop}
 use Rattle.std.specs.List.{list_any}
 use Rattle.mu_model_image.specs.declared.Meta.{Meta}
 use Rattle.mu_model_node.specs.declared.NodeConfig.{NodeConfig}
 use Rattle.mu_model_client.specs.declared.Sending.{Sending}
-use Rattle.mu_model_client.specs.Client.{Client, Receiver, Item, Purpose, Update, Place, Before, At, Ended, Part, Step, is_pending, is_in, is_begun_for, at_moment as at_now}
+use Rattle.mu_model_client.specs.Client.{Client, Receiver, Item, Update, Place, Before, At, Step, is_in, is_begun_for}
 use Rattle.mu_model_client.specs.Lists.{first_list, sent_for}
 use Rattle.mu_model_client.specs.Due as d
 use Rattle.mu_model_client.specs.Due.{Due, due, Next, Go, Ends}
 use Rattle.mu_model_client_laws.specs.Laws.{KeepsPlan}
 use Rattle.mu_model_completion.specs.Turn.{Member, Sent, asked_by, turn, settle}
-use Rattle.mu_model_completion.proofs.Pairs.{Pair, receiver_in, pair_item, pair_items, pair_time, with_receiver, pair_turn, Holds, turned, items_config}
+use Rattle.mu_model_completion.proofs.Pairs.{Pair, receiver_in, pair_items, pair_time, pair_turn, Holds, turned}
 use Rattle.mu_model_completion.proofs.Receivers.{view}
 
 -- ---- within so many turns
@@ -81,11 +80,14 @@ module _ (laws : KeepsPlan) (p : Sending) (meta : Meta) (config : NodeConfig) (i
       let c : Client = client_at (At step) (item ∷ items) s.began (max s.moment (s.now + 100)) (map receiver_in ps) in
       let e : Due = d.sends c image (item ∷ items) in
       let is_due : due (client_at (At step) (item ∷ items) s.began s.moment (map receiver_in ps)) image (s.now + 100) ≡ e =
-          ap (λ b. d.by_step c image step b) (undone s.began (max s.moment (s.now + 100))) in
+      ap (λ b. d.by_step c image step b) (undone s.began (max s.moment (s.now + 100))) in
       let early = s.early in
       let late : max s.moment (s.now + 100) ≡ s.now + 100 = omega (arith, early) in
       record {
-        now = s.now + 100; began = s.began; moment = max s.moment (s.now + 100); early = omega (arith, late);
+        now = s.now + 100;
+        began = s.began;
+        moment = max s.moment (s.now + 100);
+        early = omega (arith, late);
         holds = turned laws config image s.now _ ps xs s.holds (λ r. r) (λ r. refl) e is_due (map_id (map receiver_in ps)) late;
       }
 
@@ -112,7 +114,7 @@ module _ (laws : KeepsPlan) (p : Sending) (meta : Meta) (config : NodeConfig) (i
   -- a step begins, in this turn
   module _ (place : Place) (ps : List Pair) (xs : List Member) (s : Station place [] ps xs) (step : Step)
       (leads : (began moment : ℕ) → d.by_place (client_at place [] began moment (map receiver_in ps)) image place
-          ≡ d.sends (d.in_step (client_at place [] began moment (map receiver_in ps)) step) image (d.first_of (client_at place [] began moment (map receiver_in ps)) step)) where
+      ≡ d.sends (d.in_step (client_at place [] began moment (map receiver_in ps)) step) image (d.first_of (client_at place [] began moment (map receiver_in ps)) step)) where
     abbrev pub begun_pairs : List Pair
     begun_pairs = map (begins step) ps
 
@@ -125,11 +127,14 @@ module _ (laws : KeepsPlan) (p : Sending) (meta : Meta) (config : NodeConfig) (i
         let late : max s.moment (s.now + 100) ≡ s.now + 100 = omega (arith, early) in
         let items : d.first_of c step ≡ first_items step begun_pairs = ap (λ rs. first_list p (Update meta true) rs step) (begun_all step ps) in
         let made : Station (At step) (drop 16 (d.first_of c step)) (map (pair_turn (view p meta step) config.address (d.begun step) (sent_all (take 16 (d.first_of c step)))) ps) (turn xs) = record {
-          now = s.now + 100; began = max s.moment (s.now + 100); moment = max s.moment (s.now + 100); early = omega (arith, late);
+          now = s.now + 100;
+          began = max s.moment (s.now + 100);
+          moment = max s.moment (s.now + 100);
+          early = omega (arith, late);
           holds = turned laws config image s.now _ ps xs s.holds (d.begun step) (λ r. begun_place r (is_in step r)) e is_due refl late;
         } in
         subst (λ list. Station (At step) (drop 16 list) (map (turn_in step (take 16 list)) begun_pairs) (turn xs)) items
-            (subst (λ qs. Station (At step) (drop 16 (d.first_of c step)) qs (turn xs)) (then_in step (take 16 (d.first_of c step)) ps) made)
+        (subst (λ qs. Station (At step) (drop 16 (d.first_of c step)) qs (turn xs)) (then_in step (take 16 (d.first_of c step)) ps) made)
 
   -- after a step that is done
   pub leads_on : (last next : Step) (ps : List Pair)
@@ -137,7 +142,7 @@ module _ (laws : KeepsPlan) (p : Sending) (meta : Meta) (config : NodeConfig) (i
       → d.after p (Update meta true) (map receiver_in ps) last ≡ Go next
       → list_any (is_begun_for next) (map receiver_in ps) ≡ true
       → (began moment : ℕ) → d.by_place (client_at (At last) [] began moment (map receiver_in ps)) image (At last)
-          ≡ d.sends (d.in_step (client_at (At last) [] began moment (map receiver_in ps)) next) image (d.first_of (client_at (At last) [] began moment (map receiver_in ps)) next)
+      ≡ d.sends (d.in_step (client_at (At last) [] began moment (map receiver_in ps)) next) image (d.first_of (client_at (At last) [] began moment (map receiver_in ps)) next)
   leads_on last next ps done goes some began moment =
       let c : Client = client_at (At last) [] began moment (map receiver_in ps) in
       ap (λ b. d.by_step c image last b) (done began moment) ∙ (ap (λ n. d.goes_on c image n) goes ∙ ap (λ b. d.begins_if c image next b) some)
@@ -145,5 +150,5 @@ module _ (laws : KeepsPlan) (p : Sending) (meta : Meta) (config : NodeConfig) (i
   -- the first step of all
   pub leads_first : (next : Step) (ps : List Pair) → list_any (is_begun_for next) (map receiver_in ps) ≡ true
       → (began moment : ℕ) → d.by_place (client_at (Before next) [] began moment (map receiver_in ps)) image (Before next)
-          ≡ d.sends (d.in_step (client_at (Before next) [] began moment (map receiver_in ps)) next) image (d.first_of (client_at (Before next) [] began moment (map receiver_in ps)) next)
+      ≡ d.sends (d.in_step (client_at (Before next) [] began moment (map receiver_in ps)) next) image (d.first_of (client_at (Before next) [] began moment (map receiver_in ps)) next)
   leads_first next ps some began moment = ap (λ b. d.begins_if (client_at (Before next) [] began moment (map receiver_in ps)) image next b) some

@@ -1,41 +1,38 @@
 -- Completion without loss, in push.
-use Rattle.std.proofs.Common.{◌≡◌, ◌⊎◌, inl, inr, ◌<◌, ◌≤◌, ◌+◌, ◌-◌, ◌*◌, ◌/◌, ◌^◌, ◌==◌, ℕ, zero, suc, List, [], ◌∷◌, ◌++◌, refl, sym, ap, ◌∙◌, subst, true, false, Bool, Option, Some, None, arith, map, max, min, length, take, drop, lit≤}
-use Rattle.std.specs.Prelude.{◌≢◌, ◌&&◌, ◌||◌, not, if◌then◌else◌, nat_lt, nat_le, IsTrue, ◌↔◌}
-use Rattle.std.specs.List.{list_any, flat_map, range_with_len, AllByRecursion}
+use Rattle.std.proofs.Common.{◌≡◌, ◌⊎◌, inl, inr, ◌<◌, ◌≤◌, ◌+◌, ◌-◌, ◌*◌, ◌^◌, ◌==◌, ℕ, zero, suc, List, [], ◌∷◌, ◌++◌, refl, sym, ap, ◌∙◌, subst, true, false, Bool, Option, Some, None, arith, map, length, lit≤}
+use Rattle.std.specs.Prelude.{◌≢◌, ◌&&◌, ◌||◌, not, if◌then◌else◌, nat_lt}
+use Rattle.std.specs.List.{flat_map, range_with_len, AllByRecursion}
 use Rattle.std.proofs.lemmas.Bool.{eq-eqb, eqb-true}
 use Rattle.std.proofs.lemmas.Bool.Decides.{nat_tests}
 use Rattle.std.proofs.lemmas.Nat.{pow_pos}
-use Rattle.std.proofs.Math.Nat.{suc-mul, le-div_iff_mul-le, lt-div-mul-add, div-mul-le_self, pow-le-pow_right}
+use Rattle.std.proofs.Math.Nat.{suc-mul, le-div_iff_mul-le, pow-le-pow_right}
 use Rattle.mu_model_image.specs.declared.Meta.{Meta}
-use Rattle.mu_model_image.specs.Meta.{Image, IsMeta, IsFit, is_fit}
-use Rattle.mu_model_image.specs.Pieces.{piece_count, block_count, block_length, chunk_count}
+use Rattle.mu_model_image.specs.Pieces.{piece_count, block_length}
 use Rattle.mu_model_image.specs.Laws.{MetaIsReadBack, FitIsTested}
 use Rattle.mu_model_wire.specs.Reports.{has, every_number}
 use Rattle.mu_model_node.specs.declared.NodeConfig.{NodeConfig}
-use Rattle.mu_model_node.specs.NodeState.{NodeState, Job}
 use Rattle.mu_model_client.specs.declared.Sending.{Sending}
 use Rattle.mu_model_client.specs.declared.Plan.{Plan}
 use Rattle.mu_model_client.specs.Rows.{Row as ShownRow}
-use Rattle.mu_model_client.specs.Sets.{below}
-use Rattle.mu_model_client.specs.Client.{Client, Receiver, row_of, rows, Update, Item, Sends, Place, Before, Check, block_total, chunk_total, full_chunks}
+use Rattle.mu_model_client.specs.Client.{Client, Receiver, row_of, rows, Update, Item, Sends, Before, Check, block_total, chunk_total, full_chunks}
 use Rattle.mu_model_client.specs.Begin.{start, at_first, new_active, purpose_of}
 use Rattle.mu_model_client.specs.Told.{held_percent}
 use Rattle.mu_model_client.specs.Lists as l
 use Rattle.mu_model_client.specs.Lists.{chunk_items, missing_of, lacking}
 use Rattle.mu_model_client_laws.specs.Laws.{KeepsPlan, FieldsAreRead}
-use Rattle.mu_model_completion.specs.Turn.{Member, Part, IsNode, IsUpdater, turn, settle}
-use Rattle.mu_model_completion.specs.Completion.{at_address, Distinct, AllQuiet, rows_at, rows_in, IsUpdate, Takes, NoneTwice, CanBegin, sixteens, push_turns, succeeded, PushCompletes}
-use Rattle.mu_model_completion.proofs.Pairs.{Pair, receiver_in, node_in, Holds, IsHere}
-use Rattle.mu_model_completion.proofs.Nodes.{Offer, idle}
+use Rattle.mu_model_completion.specs.Turn.{Member, IsUpdater, turn, settle}
+use Rattle.mu_model_completion.specs.Completion.{at_address, rows_at, rows_in, Takes, NoneTwice, CanBegin, sixteens, push_turns, succeeded}
+use Rattle.mu_model_completion.proofs.Pairs.{Pair, receiver_in, IsHere}
+use Rattle.mu_model_completion.proofs.Nodes.{Offer}
 use Rattle.mu_model_completion.proofs.Receivers.{rcv, all_held}
-use Rattle.mu_model_completion.proofs.Stations.{Within, client_at, Station}
+use Rattle.mu_model_completion.proofs.Stations.{client_at}
 use Rattle.mu_model_completion.proofs.Asking.{Apart, Misses, configs}
-use Rattle.mu_model_completion.proofs.First.{Good, Row, Idle}
+use Rattle.mu_model_completion.proofs.First.{Good, Row}
 use Rattle.mu_model_completion.proofs.Pieces.{lacking_from, all_are_held, fewer_pieces}
 use Rattle.mu_model_completion.proofs.Blocks.{Tiles}
 use Rattle.mu_model_completion.proofs.Sixteens.{Reaches}
 use Rattle.mu_model_completion.proofs.Course.{Reached, First}
-use Rattle.mu_model_completion.proofs.End.{Final, SomeOver, Over, course, some_always, turns_in_all}
+use Rattle.mu_model_completion.proofs.End.{Final, SomeOver, course, some_always, turns_in_all}
 
 -- ---- the lists of chunks
 
@@ -65,7 +62,7 @@ module _ (p : Sending) where
       ap (λ m. flat_map f (range_with_len 0 m)) total
       ∙ each_one f (λ k. Sends p.group b k) (suc c) 0
       (λ k low high. ap (λ z. map (λ to. Sends to b k) (if z then lacking missing_of (map receiver_in (x ∷ ps)) k else l.to_group p.group (lacking missing_of (map receiver_in (x ∷ ps)) k))) g
-        ∙ ap (map (λ to. Sends to b k)) (to_group_once p.group k bs c x ps h.0 (omega (arith, high))))
+      ∙ ap (map (λ to. Sends to b k)) (to_group_once p.group k bs c x ps h.0 (omega (arith, high))))
 
   alone_list : (p.group == 0) ≡ true → (a b c : ℕ) → chunk_total p b ≡ suc c → (bs : List Bool) (x : Pair) → Row 2 bs (every_number (suc c)) true x → x.config.address ≡ a
       → chunk_items p b missing_of (x.r ∷ []) ≡ map (λ i. Sends a b i) (range_with_len 0 (suc c))
@@ -74,8 +71,8 @@ module _ (p : Sending) where
       ap (λ m. flat_map f (range_with_len 0 m)) total
       ∙ each_one f (λ k. Sends a b k) (suc c) 0
       (λ k low high. ap (λ z. map (λ to. Sends to b k) (if z then lacking missing_of (x.r ∷ []) k else l.to_group p.group (lacking missing_of (x.r ∷ []) k))) g
-        ∙ (ap (λ z. map (λ to. Sends to b k) (l.lacking_if x.r.row.address z ++ [])) (ap (l.lacks_chunk missing_of k) row.r_is ∙ has_every (suc c) 0 k (omega (arith, high)))
-        ∙ ap (λ to. Sends to b k ∷ []) (ap (λ (r : Receiver). r.row.address) row.r_is ∙ place)))
+      ∙ (ap (λ z. map (λ to. Sends to b k) (l.lacking_if x.r.row.address z ++ [])) (ap (l.lacks_chunk missing_of k) row.r_is ∙ has_every (suc c) 0 k (omega (arith, high)))
+      ∙ ap (λ to. Sends to b k ∷ []) (ap (λ (r : Receiver). r.row.address) row.r_is ∙ place)))
 
 -- ---- counts of blocks and chunks
 
@@ -108,16 +105,17 @@ full_few p log least =
     let most : piece_count 16384 p.chunk ≤ 2048 = not_more p.chunk least in
     omega (arith, fewer, most)
   where
-  not_more : (c : ℕ) → 8 ≤ c → piece_count 16384 c ≤ 2048
-  not_more c least = elim (which (piece_count 16384 c)) [
+    not_more : (c : ℕ) → 8 ≤ c → piece_count 16384 c ≤ 2048
+    not_more c least = elim (which (piece_count 16384 c)) [
       | inl h ↦ h
       | inr h ↦ (let k : 2049 * c ≤ 16384 + c - 1 = (le-div_iff_mul-le (positive c least)).0 h in absurd (omega (arith, k, least)))
     ]
-    where
-    which : (n : ℕ) → (n ≤ 2048) ⊎ (2049 ≤ n)
-    which n = grind arith
-    positive : (c : ℕ) → 8 ≤ c → 0 < c
-    positive c least = omega (arith, least)
+      where
+        which : (n : ℕ) → (n ≤ 2048) ⊎ (2049 ≤ n)
+        which n = grind arith
+
+        positive : (c : ℕ) → 8 ≤ c → 0 < c
+        positive c least = omega (arith, least)
 
 -- ---- the pairs of an update that can begin
 
@@ -153,15 +151,16 @@ misses : (a : ℕ) (c : NodeConfig) → a < 0x8000 → (a ≢ c.address) → (c.
 misses a c unicast other group =
     both_false (a == c.address) (not (c.group == 0) && (a == c.group)) (differs a c.address other) (no_group group)
   where
-  differs : (a b : ℕ) → a ≢ b → (a == b) ≡ false
-  differs a b h = grind (arith, nat_tests, h)
-  no_group : (c.group ≡ 0) ⊎ (0xC000 ≤ c.group) → (not (c.group == 0) && (a == c.group)) ≡ false
-  no_group (inl e) = ap (λ z. not z && (a == c.group)) (eq-eqb c.group 0 e)
-  no_group (inr h) = and_false (not (c.group == 0)) (a == c.group) (grind (arith, nat_tests, h, unicast))
-    where
-    and_false : (x y : Bool) → y ≡ false → (x && y) ≡ false
-    and_false true y e = e
-    and_false false y e = refl
+    differs : (a b : ℕ) → a ≢ b → (a == b) ≡ false
+    differs a b h = grind (arith, nat_tests, h)
+
+    no_group : (c.group ≡ 0) ⊎ (0xC000 ≤ c.group) → (not (c.group == 0) && (a == c.group)) ≡ false
+    no_group (inl e) = ap (λ z. not z && (a == c.group)) (eq-eqb c.group 0 e)
+    no_group (inr h) = and_false (not (c.group == 0)) (a == c.group) (grind (arith, nat_tests, h, unicast))
+      where
+        and_false : (x y : Bool) → y ≡ false → (x && y) ≡ false
+        and_false true y e = e
+        and_false false y e = refl
 
 module _ (plan : Plan) (image : List ℕ) (members : List Member) where
   abbrev Takes_ : ℕ → Type 0
@@ -200,10 +199,13 @@ module _ (plan : Plan) (image : List ℕ) (members : List Member) where
   apart_from a t [] h k = tt
   apart_from a t (b ∷ to) h k =
       let here : t.config.address ≡ a = address_is a t in
-      let there : h.0.config.address ≡ b = address_is b h.0 in
-      ((subst (λ z. Misses z h.0.config) (sym here) (misses a h.0.config t.unicast (λ e. k.0 (e ∙ there)) h.0.some_group),
-        subst (λ z. Misses z t.config) (sym there) (misses b t.config h.0.unicast (λ e. k.0 (sym (e ∙ here))) t.some_group)),
-      apart_from a t to h.1 k.1)
+      let there : h.0.config.address ≡ b = address_is b h.0 in (
+        (
+          subst (λ z. Misses z h.0.config) (sym here) (misses a h.0.config t.unicast (λ e. k.0 (e ∙ there)) h.0.some_group),
+          subst (λ z. Misses z t.config) (sym there) (misses b t.config h.0.unicast (λ e. k.0 (sym (e ∙ here))) t.some_group),
+        ),
+        apart_from a t to h.1 k.1,
+      )
 
   all_apart : (to : List ℕ) (h : AllByRecursion Takes_ to) → NoneTwice to → Apart (configs (pairs to h))
   unfolding pairs
@@ -217,17 +219,17 @@ module _ (plan : Plan) (image : List ℕ) (members : List Member) where
       or_true (plan.sending.group == c.address) (not (c.group == 0) && (plan.sending.group == c.group))
       (ap (λ z. not (z == 0) && (plan.sending.group == z)) e ∙ (ap (λ z. not z && (plan.sending.group == plan.sending.group)) (no_zero plan.sending.group some) ∙ eq-eqb plan.sending.group plan.sending.group refl))
     where
-    no_zero : (g : ℕ) → g ≢ 0 → (g == 0) ≡ false
-    no_zero g h = grind (arith, nat_tests, h)
+      no_zero : (g : ℕ) → g ≢ 0 → (g == 0) ≡ false
+      no_zero g h = grind (arith, nat_tests, h)
 
   all_reached : plan.sending.group ≢ 0 → (to : List ℕ) (h : AllByRecursion Takes_ to) → AllByRecursion (Reaches plan.sending.group) (configs (pairs to h))
   unfolding pairs
   all_reached some [] h = tt
   all_reached some (a ∷ to) h = (group_reaches h.0.config some (its_group h.0.in_group), all_reached some to h.1)
     where
-    its_group : (plan.sending.group ≡ 0) ⊎ (h.0.config.group ≡ plan.sending.group) → h.0.config.group ≡ plan.sending.group
-    its_group (inl e) = absurd (some e)
-    its_group (inr e) = e
+      its_group : (plan.sending.group ≡ 0) ⊎ (h.0.config.group ≡ plan.sending.group) → h.0.config.group ≡ plan.sending.group
+      its_group (inl e) = absurd (some e)
+      its_group (inr e) = e
 
 -- ---- the law
 
@@ -326,12 +328,20 @@ module _ (laws : KeepsPlan) (fields : FieldsAreRead) (tiles : Tiles) (read : Met
   first_pair a t = (
     record { r_is = ap (λ z. rcv z 10 [] [] false) (sym (address_is plan image members a t)) },
     record {
-      capacity = t.state.durable.capacity; active = t.active; images = t.others; offer = offer a t; count = t.state.durable.count; fresh = t.state.fresh; session = t.state.session;
-      m = t.state.moment; early = t.handed;
+      capacity = t.state.durable.capacity;
+      active = t.active;
+      images = t.others;
+      offer = offer a t;
+      count = t.state.durable.count;
+      fresh = t.state.fresh;
+      session = t.state.session;
+      m = t.state.moment;
+      early = t.handed;
       n_is =
           ap (λ job. record { durable = record { count = t.state.durable.count; capacity = t.state.durable.capacity; images = t.state.durable.images; job = job }; fresh = t.state.fresh; session = t.state.session; moment = t.state.moment }) t.idle
           ∙ ap (λ images. record { durable = record { count = t.state.durable.count; capacity = t.state.durable.capacity; images = images; job = None }; fresh = t.state.fresh; session = t.state.session; moment = t.state.moment }) t.images;
-    })
+    },
+  )
 
   all_first : (as_ : List ℕ) (h : AllByRecursion (Takes plan members) as_) → AllByRecursion First_ (pairs plan image members as_ h)
   unfolding pairs
@@ -342,20 +352,26 @@ module _ (laws : KeepsPlan) (fields : FieldsAreRead) (tiles : Tiles) (read : Met
   first_station = record {
     qs = pairs plan image members to from.takes;
     station = record {
-      now = from.moment; began = 0; moment = 0; early = omega arith;
+      now = from.moment;
+      began = 0;
+      moment = 0;
+      early = omega arith;
       holds = record {
         updater = from.updater ∙ ap (λ (c : Client). Some (record { config = config; moment = from.moment; part = IsUpdater c image })) first_client;
-        distinct = from.distinct; quiet = from.quiet; here = all_here plan image members to from.takes; receivers = refl;
+        distinct = from.distinct;
+        quiet = from.quiet;
+        here = all_here plan image members to from.takes;
+        receivers = refl;
       };
     };
     all = all_first to from.takes;
     same = refl;
   }
     where
-    first_client : start plan (map (λ a. (a, 0)) to) ≡ client_at laws p meta config image (Before Check) [] 0 0 (map receiver_in (pairs plan image members to from.takes))
-    first_client =
-        ap (λ rs. at_first p (purpose_of plan) rs (Before Check)) (receivers_are plan image members to from.takes)
-        ∙ ap (λ apply. at_first p (Update meta apply) (map receiver_in (pairs plan image members to from.takes)) (Before Check)) from.update.apply
+      first_client : start plan (map (λ a. (a, 0)) to) ≡ client_at laws p meta config image (Before Check) [] 0 0 (map receiver_in (pairs plan image members to from.takes))
+      first_client =
+          ap (λ rs. at_first p (purpose_of plan) rs (Before Check)) (receivers_are plan image members to from.takes)
+          ∙ ap (λ apply. at_first p (Update meta apply) (map receiver_in (pairs plan image members to from.takes)) (Before Check)) from.update.apply
 
   -- ---- the rows at the end
 
@@ -364,15 +380,15 @@ module _ (laws : KeepsPlan) (fields : FieldsAreRead) (tiles : Tiles) (read : Met
   configs_address [] h = refl
   configs_address (a ∷ rest) h = cons_same (address_is plan image members a h.0) (configs_address rest h.1)
     where
-    cons_same : {x y : ℕ} {xs ys : List ℕ} → x ≡ y → xs ≡ ys → (x ∷ xs) ≡ (y ∷ ys)
-    cons_same e f = rw (e, f) refl
+      cons_same : {x y : ℕ} {xs ys : List ℕ} → x ≡ y → xs ≡ ys → (x ∷ xs) ≡ (y ∷ ys)
+      cons_same e f = rw (e, f) refl
 
   percent : (n : ℕ) → held_percent (lacking_from (suc n) 0) ≡ 100
   percent n = ap held_percent (all_are_held (suc n)) ∙ all_held (suc n) (omega arith)
 
   module _ (target : ℕ) (reached : AllByRecursion (Reaches target) cs)
       (lists : (b c : ℕ) → chunk_total p b ≡ suc c → (bs : List Bool) (qs : List Pair) → AllByRecursion (Row 2 bs (every_number (suc c)) true) qs → configs qs ≡ cs
-          → chunk_items p b missing_of (map receiver_in qs) ≡ map (λ i. Sends target b i) (range_with_len 0 (suc c))) where
+      → chunk_items p b missing_of (map receiver_in qs) ≡ map (λ i. Sends target b i) (range_with_len 0 (suc c))) where
     abbrev IsOver : List Member → Type 0
     IsOver xs = SomeOver laws fields tiles p meta config image blocks good whole chunk_some cs apart some q few fits q_some target mc reached counts lists xs
 
@@ -388,8 +404,8 @@ module _ (laws : KeepsPlan) (fields : FieldsAreRead) (tiles : Tiles) (read : Met
     rows_are c [] h = refl
     rows_are c (x ∷ qs) h = cons_same (row_is c x h.0) (rows_are c qs h.1)
       where
-      cons_same : {x y : ShownRow} {xs ys : List ShownRow} → x ≡ y → xs ≡ ys → (x ∷ xs) ≡ (y ∷ ys)
-      cons_same e f = rw (e, f) refl
+        cons_same : {x y : ShownRow} {xs ys : List ShownRow} → x ≡ y → xs ≡ ys → (x ∷ xs) ≡ (y ∷ ys)
+        cons_same e f = rw (e, f) refl
 
     over_rows : (xs : List Member) → IsOver xs → rows_at config.address xs ≡ Some (map succeeded to)
     over_rows xs o =
@@ -424,10 +440,73 @@ module _ (laws : KeepsPlan) (fields : FieldsAreRead) (tiles : Tiles) (read : Met
   by_group g n le =
       completes plan.sending.group (all_reached plan image members g to from.takes)
       (λ b c total bs qs rows same. group_lists p (no_zero plan.sending.group g) b c total bs qs rows
-        (let l = ap (length {A = NodeConfig}) same in let k = configs_long qs in let s = some in omega (arith, l, k, s))) n le
+      (let l = ap (length {A = NodeConfig}) same in let k = configs_long qs in let s = some in omega (arith, l, k, s))) n le
     where
-    no_zero : (g : ℕ) → g ≢ 0 → (g == 0) ≡ false
-    no_zero g h = grind (arith, nat_tests, h)
-    configs_long : (qs : List Pair) → length (configs qs) ≡ length qs
-    configs_long [] = refl
-    configs_long (x ∷ qs) = ap suc (configs_long qs)
+      no_zero : (g : ℕ) → g ≢ 0 → (g == 0) ≡ false
+      no_zero g h = grind (arith, nat_tests, h)
+
+      configs_long : (qs : List Pair) → length (configs qs) ≡ length qs
+      configs_long [] = refl
+      configs_long (x ∷ qs) = ap suc (configs_long qs)
+
+  abbrev Lists : ℕ → List NodeConfig → Type 0
+  Lists target es =
+      (b c : ℕ) → chunk_total p b ≡ suc c → (bs : List Bool) (qs : List Pair) → AllByRecursion (Row 2 bs (every_number (suc c)) true) qs → configs qs ≡ es
+      → chunk_items p b missing_of (map receiver_in qs) ≡ map (λ i. Sends target b i) (range_with_len 0 (suc c))
+
+  record OneTarget (es : List NodeConfig) : Type 0 where
+    target : ℕ
+    reached : AllByRecursion (Reaches target) es
+    lists : Lists target es
+
+  first_of : NodeConfig → List NodeConfig → NodeConfig
+  first_of e [] = e
+  first_of e (f ∷ fs) = f
+
+  one_list : (p.group == 0) ≡ true → (a : ℕ) (e : NodeConfig) → e.address ≡ a → Lists a (e ∷ [])
+  one_list g a e at_a b c total bs [] rows same = absurd (none_one same)
+    where
+      none_one : [] ≡ e ∷ [] → ⊥
+      none_one h = grind (arith, h)
+  one_list g a e at_a b c total bs (x ∷ []) rows same =
+      alone_list p g a b c total bs x rows.0 (ap (λ (z : NodeConfig). z.address) (head_same x.config e same) ∙ at_a)
+    where
+      head_same : (f g : NodeConfig) → (f ∷ []) ≡ (g ∷ []) → f ≡ g
+      head_same f g h = ap (first_or f) h
+        where
+          first_or : NodeConfig → List NodeConfig → NodeConfig
+          first_or e [] = e
+          first_or e (f ∷ fs) = f
+  one_list g a e at_a b c total bs (x ∷ y ∷ qs) rows same = absurd (two_one same)
+    where
+      two_one : (x.config ∷ y.config ∷ configs qs) ≡ e ∷ [] → ⊥
+      two_one h = grind (arith, h)
+
+  one_target : (p.group == 0) ≡ true → (as_ : List ℕ) (h : AllByRecursion (Takes plan members) as_) → length as_ ≡ 1 → OneTarget (configs (pairs plan image members as_ h))
+  unfolding pairs
+  one_target g [] h e = absurd (omega (arith, e))
+  one_target g (a ∷ []) h e = record {
+    target = a;
+    reached = (ap (λ z. z || (not (h.0.config.group == 0) && (a == h.0.config.group))) (eq-eqb a h.0.config.address (sym (address_is plan image members a h.0))), tt);
+    lists = one_list g a h.0.config (address_is plan image members a h.0);
+  }
+  one_target g (a ∷ b ∷ rest) h e = absurd (omega (arith, e))
+
+  alone : plan.sending.group ≡ 0 → length to ≡ 1 → (n : ℕ) → push_turns p (length to) ≤ n → rows_at config.address (settle n members) ≡ Some (map succeeded to)
+  alone g one n le =
+      let t = one_target (eq-eqb plan.sending.group 0 g) to from.takes one in
+      completes t.target t.reached t.lists n le
+
+  by_zero : (plan.sending.group ≢ 0) ⊎ (length to ≡ 1) → (zero : Bool) → (plan.sending.group == 0) ≡ zero → (n : ℕ) → push_turns p (length to) ≤ n
+      → rows_at config.address (settle n members) ≡ Some (map succeeded to)
+  by_zero h true e n le = elim h [
+    | inl some ↦ absurd (some (eqb-true plan.sending.group 0 e))
+    | inr one ↦ alone (eqb-true plan.sending.group 0 e) one n le
+  ]
+  by_zero h false e n le = by_group (λ z. false_true (sym e ∙ eq-eqb plan.sending.group 0 z)) n le
+    where
+      false_true : false ≡ true → ⊥
+      false_true h = grind (arith, h)
+
+  pub push_completes : (plan.sending.group ≢ 0) ⊎ (length to ≡ 1) → (n : ℕ) → push_turns p (length to) ≤ n → rows_at config.address (settle n members) ≡ Some (map succeeded to)
+  push_completes h n le = by_zero h (plan.sending.group == 0) refl n le

@@ -1,7 +1,6 @@
 -- How many turns an update takes in which nothing is lost.
-use Rattle.std.specs.Prelude.{ℕ, ◌≡◌, ◌≢◌, ◌<◌, ◌≤◌, ◌+◌, ◌*◌, ◌⊎◌, ◌==◌, Bool, true, false, List, [], ◌∷◌, length, map, Option, Some, None, if◌then◌else◌}
+use Rattle.std.specs.Prelude.{ℕ, ◌≡◌, ◌≢◌, ◌<◌, ◌≤◌, ◌+◌, ◌*◌, ◌⊎◌, ◌==◌, true, false, List, [], ◌∷◌, length, map, Option, Some, None, if◌then◌else◌}
 use Rattle.std.specs.List.{AllByRecursion}
-use Rattle.mu_model_image.specs.declared.Meta.{Meta}
 use Rattle.mu_model_image.specs.Meta.{Image, IsMeta, IsFit}
 use Rattle.mu_model_image.specs.Pieces.{piece_count}
 use Rattle.mu_model_node.specs.declared.NodeConfig.{NodeConfig}
@@ -9,7 +8,7 @@ use Rattle.mu_model_node.specs.NodeState.{NodeState}
 use Rattle.mu_model_client.specs.declared.Sending.{Sending}
 use Rattle.mu_model_client.specs.declared.Plan.{Plan}
 use Rattle.mu_model_client.specs.Rows.{Row}
-use Rattle.mu_model_client.specs.Client.{Client, rows, block_total, chunk_total}
+use Rattle.mu_model_client.specs.Client.{rows, block_total, chunk_total}
 use Rattle.mu_model_client.specs.Begin.{start, is_ended}
 use Rattle.mu_model_completion.specs.Turn.{Member, Part, IsNode, IsUpdater, settle}
 
