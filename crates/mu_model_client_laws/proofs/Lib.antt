@@ -6,3 +6,4 @@ pub mod Sound
 pub mod Chunks
 pub mod Worked
 pub mod WorkedInitiator
+pub mod Fields

@@ -8,7 +8,8 @@ use Rattle.mu_model_node.specs.UpdateMessages.{ShownJob, InformationStatus, Upda
 use Rattle.mu_model_client.specs.declared.Sending.{Sending}
 use Rattle.mu_model_client.specs.declared.Plan.{Plan}
 use Rattle.mu_model_client.specs.declared.Stage.{Stage}
-use Rattle.mu_model_client.specs.Sets.{below}
+use Rattle.mu_model_client.specs.Sets.{below, set_of_field}
+use Rattle.mu_model_wire.specs.Reports.{bit_field}
 use Rattle.mu_model_client.specs.Answers.{Answer, FromUpdate}
 use Rattle.mu_model_client.specs.Rows.{Row, rank, is_reported, apply_success, apply_failed, phase_unknown, transfer_canceled, row_after}
 use Rattle.mu_model_client.specs.Client.{Step, Chunks, Cancel, Receiver, is_active, Item, Says, Sends, Place, At, Verified, Client, rows, chunk_total, round_time}
@@ -211,3 +212,9 @@ pub data MakesList (c : Client) (image : List ℕ) (d : Due) : Type 0 where
 -- each list that is made goes to receivers that are active then
 abbrev pub ListsGoToActive : Type 0
 ListsGoToActive = (c : Client) (image : List ℕ) (now : ℕ) → IsSound c → MakesList c image (due c image now)
+
+-- ---- sets
+
+-- the bit field of a set is read as the set
+abbrev pub FieldsAreRead : Type 0
+FieldsAreRead = (set : List Bool) → set_of_field (length set) (bit_field set) ≡ Some set

@@ -2,7 +2,12 @@
 
 ghost use Rattle.mu_model_client_laws.specs.Worked.{RepairsTheUnion, Completes, DropsTheSilent, DropsByStatus, DropsOthers};
 ghost use Rattle.mu_model_client_laws.specs.WorkedInitiator.{Initiates};
-ghost use Rattle.mu_model_client_laws.specs.Laws.{AtMostSixteen, PlansStay, TimeKeepsRanks, CancellingKeepsRanks, RowsRise, RowsChangeByCause, TimeChangesAtFive, GroupGetsTheUnion, EachGetsWhatItMisses, StepsSendTheirLists, BeginsSound, EventsKeepSound, ListsGoToActive};
+ghost use Rattle.mu_model_client_laws.specs.Laws.{AtMostSixteen, FieldsAreRead, PlansStay, TimeKeepsRanks, CancellingKeepsRanks, RowsRise, RowsChangeByCause, TimeChangesAtFive, GroupGetsTheUnion, EachGetsWhatItMisses, StepsSendTheirLists, BeginsSound, EventsKeepSound, ListsGoToActive};
+
+/// The bit field of a set of missing numbers is read as the set.
+pub fn fields_are_read()
+    ensures { FieldsAreRead }
+{}
 
 /// What is sent, what for and to whom stays from the beginning on.
 pub fn plans_stay()

@@ -1,1 +1,16 @@
 pub mod Worked
+pub mod Local
+pub mod Pairs
+pub mod Nodes
+pub mod Receivers
+pub mod Stations
+pub mod Asking
+pub mod First
+pub mod Pieces
+pub mod Blocks
+pub mod Last
+pub mod Sixteens
+pub mod Course
+pub mod Middle
+pub mod End
+pub mod Theorem
