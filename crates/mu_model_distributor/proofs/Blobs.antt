@@ -15,11 +15,11 @@ use Rattle.mu_model_distributor.proofs.Moved.{fresh_below}
 use Rattle.mu_model_distributor.proofs.Served.{ServedSoundly, serves_soundly, serves_nothing}
 
 -- what a BLOB message does to an upload
-abbrev JobFacts : ℕ → Option UploadJob → Change → Option CurrentBlock → Type 0
+abbrev pub JobFacts : ℕ → Option UploadJob → Change → Option CurrentBlock → Type 0
 JobFacts capacity None c current = current ≡ None
 JobFacts capacity (Some j) c current = ServedSoundly capacity j c current
 
-job_facts : RequestsKeepStatesSound → (s : DistState) (job : Option UploadJob) (from : ℕ) (request : BlobRequest) → job_of s.durable.upload ≡ job → BlobRequestFits request → IsDistState s → JobFacts s.durable.capacity job (on_blob (server_of s) from request).change (on_blob (server_of s) from request).session.current
+pub job_facts : RequestsKeepStatesSound → (s : DistState) (job : Option UploadJob) (from : ℕ) (request : BlobRequest) → job_of s.durable.upload ≡ job → BlobRequestFits request → IsDistState s → JobFacts s.durable.capacity job (on_blob (server_of s) from request).change (on_blob (server_of s) from request).session.current
 job_facts law s None from request e fits h =
     serves_nothing law (server_of s) from request fits h.durable.capacity (rw e refl) (none_of s.session.current (subst (λ o. HasCurrent o s.session.current) e h.current))
   where

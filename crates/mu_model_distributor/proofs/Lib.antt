@@ -12,3 +12,6 @@ pub mod Served
 pub mod Blobs
 pub mod Times
 pub mod Steps
+pub mod Puts
+pub mod Counts
+pub mod Work

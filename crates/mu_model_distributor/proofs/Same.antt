@@ -137,3 +137,74 @@ same_durable_true a b e =
     let upload : a.upload ≡ b.upload = same_upload_true a.upload b.upload r.1 in
     let images : a.images ≡ b.images = list_true same_image same_image_true a.images b.images s.1 in
     grind (arith)
+
+-- ---- and what is equal is the same
+
+and_true : (x y : Bool) → x ≡ true → y ≡ true → (x && y) ≡ true
+and_true x y e k = rw (e, k) refl
+
+eq_refl : (n : ℕ) → (n == n) ≡ true
+eq_refl n = grind (arith, nat_tests)
+
+settings_refl : (a : Settings) → same_settings a a ≡ true
+settings_refl a = grind (arith, nat_tests)
+
+receiver_refl : (a : Receiver) → same_receiver a a ≡ true
+receiver_refl a = grind (arith, nat_tests)
+
+parameters_refl : (a : Parameters) → same_parameters a a ≡ true
+parameters_refl a = grind (arith, nat_tests)
+
+octets_refl : (a : List ℕ) → bytes_eq a a ≡ true
+octets_refl a = (bytes_eq-Decides a a).1 refl
+
+meta_refl : (a : Meta) → same_meta a a ≡ true
+meta_refl a = and_true _ (bytes_eq a.digest a.digest) (grind (arith, nat_tests)) (octets_refl a.digest)
+
+option_refl : {A : Type 0} (same : A → A → Bool) → ((a : A) → same a a ≡ true) → (a : Option A) → same_option same a a ≡ true
+option_refl same h None = refl
+option_refl same h (Some a) = h a
+
+list_refl : {A : Type 0} (same : A → A → Bool) → ((a : A) → same a a ≡ true) → (a : List A) → same_list same a a ≡ true
+list_refl same h [] = refl
+list_refl same h (a ∷ more) = and_true (same a a) (same_list same more more) (h a) (list_refl same h more)
+
+image_refl : (a : StoredImage) → same_image a a ≡ true
+image_refl a = and_true _ (bytes_eq a.image.octets a.image.octets) (and_true (a.bank == a.bank) (same_meta a.image.meta a.image.meta) (eq_refl a.bank) (meta_refl a.image.meta)) (octets_refl a.image.octets)
+
+transfer_refl : (a : Transfer) → same_transfer a a ≡ true
+transfer_refl a =
+    and_true _ (same_list (same_option bytes_eq) a.held a.held)
+    (and_true _ (same_option same_parameters a.parameters a.parameters)
+    (and_true _ (a.base == a.base) (and_true (a.id == a.id) (a.size == a.size) (eq_refl a.id) (eq_refl a.size)) (eq_refl a.base))
+    (option_refl same_parameters parameters_refl a.parameters))
+    (list_refl (same_option bytes_eq) (option_refl bytes_eq octets_refl) a.held)
+
+job_refl : (a : UploadJob) → same_job a a ≡ true
+job_refl a = and_true (a.bank == a.bank) (same_transfer a.transfer a.transfer) (eq_refl a.bank) (transfer_refl a.transfer)
+
+upload_refl : (a : Upload) → same_upload a a ≡ true
+upload_refl NoUpload = refl
+upload_refl (Uploading j) = job_refl j
+upload_refl (Broken job) = option_refl same_job job_refl job
+upload_refl Uploaded = refl
+
+pub same_durable_refl : (a : DistDurable) → same_durable a a ≡ true
+same_durable_refl a =
+    and_true _ (same_list same_image a.images a.images)
+    (and_true _ (same_upload a.upload a.upload)
+    (and_true _ (same_meta a.upload_meta a.upload_meta)
+    (and_true _ (a.upload_ttl == a.upload_ttl)
+    (and_true _ (same_list same_receiver a.receivers a.receivers)
+    (and_true _ (same_settings a.settings a.settings)
+    (and_true _ (a.counter == a.counter)
+    (and_true _ (dist_number a.phase == dist_number a.phase)
+    (and_true (a.count == a.count) (a.capacity == a.capacity) (eq_refl a.count) (eq_refl a.capacity))
+    (eq_refl (dist_number a.phase)))
+    (eq_refl a.counter))
+    (settings_refl a.settings))
+    (list_refl same_receiver receiver_refl a.receivers))
+    (eq_refl a.upload_ttl))
+    (meta_refl a.upload_meta))
+    (upload_refl a.upload))
+    (list_refl same_image image_refl a.images)

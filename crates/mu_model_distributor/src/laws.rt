@@ -5,7 +5,7 @@ ghost use Rattle.mu_model_distributor.specs.WorkedUploads.{AWholeUpload, BrokenU
 ghost use Rattle.mu_model_distributor.specs.WorkedPhases.{PhaseByPhase};
 ghost use Rattle.mu_model_distributor.specs.WorkedRun.{ADistribution};
 ghost use Rattle.mu_model_distributor.specs.WorkedSettle.{NothingIsLost};
-ghost use Rattle.mu_model_distributor.specs.Laws.{EventsKeepStatesSound, BootsAreSound, PassedStatesAreSound, NewIsSound};
+ghost use Rattle.mu_model_distributor.specs.Laws.{EventsKeepStatesSound, BootsAreSound, PassedStatesAreSound, NewIsSound, StatesPassRising, WorkLeavesOldOrNew, WorkLeadsToTheNew, WorkIsBounded, RecordsAreLongByReceivers, RecordsSaySomething};
 
 /// The rules on a distributor's record hold in each state that it goes through, from each boot on.
 pub fn states_are_sound()
@@ -13,6 +13,18 @@ pub fn states_are_sound()
     ensures boots { BootsAreSound }
     ensures passed { PassedStatesAreSound }
     ensures new { NewIsSound }
+{
+    mu_model_node::laws::states_are_sound();
+}
+
+/// What an event does to the flash.
+pub fn flash_work()
+    ensures passed { StatesPassRising }
+    ensures left { WorkLeavesOldOrNew }
+    ensures led { WorkLeadsToTheNew }
+    ensures bounded { WorkIsBounded }
+    ensures long { RecordsAreLongByReceivers }
+    ensures says { RecordsSaySomething }
 {
     mu_model_node::laws::states_are_sound();
 }
