@@ -15,3 +15,4 @@ pub mod Steps
 pub mod Puts
 pub mod Counts
 pub mod Work
+pub mod Ranges

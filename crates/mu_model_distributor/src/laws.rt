@@ -5,7 +5,9 @@ ghost use Rattle.mu_model_distributor.specs.WorkedUploads.{AWholeUpload, BrokenU
 ghost use Rattle.mu_model_distributor.specs.WorkedPhases.{PhaseByPhase};
 ghost use Rattle.mu_model_distributor.specs.WorkedRun.{ADistribution};
 ghost use Rattle.mu_model_distributor.specs.WorkedSettle.{NothingIsLost};
-ghost use Rattle.mu_model_distributor.specs.Laws.{EventsKeepStatesSound, BootsAreSound, PassedStatesAreSound, NewIsSound, StatesPassRising, WorkLeavesOldOrNew, WorkLeadsToTheNew, WorkIsBounded, RecordsAreLongByReceivers, RecordsSaySomething};
+ghost use Rattle.mu_model_distributor.specs.Laws.{EventsKeepStatesSound, BootsAreSound, PassedStatesAreSound, NewIsSound, OctetsSayInRange, StatesPassRising, WorkLeavesOldOrNew, WorkLeadsToTheNew, WorkIsBounded, RecordsAreLongByReceivers, RecordsSaySomething};
+
+use mu_model_wire::laws::{grammar_holds, reads_what_is_spelled};
 
 /// The rules on a distributor's record hold in each state that it goes through, from each boot on.
 pub fn states_are_sound()
@@ -15,6 +17,15 @@ pub fn states_are_sound()
     ensures new { NewIsSound }
 {
     mu_model_node::laws::states_are_sound();
+}
+
+/// What octets say to a distributor is in the ranges of the grammar.
+pub fn octets_say_in_range()
+    ensures { OctetsSayInRange }
+{
+    grammar_holds();
+    reads_what_is_spelled();
+    mu_model_image::laws::metadata();
 }
 
 /// What an event does to the flash.
