@@ -70,7 +70,7 @@ begun_kept : (step : Step) (r : Receiver) (b : Bool) → Keeps r.row (begun_if r
 begun_kept step r true = same r.row
 begun_kept step r false = same r.row
 
-step_rows : (c : Client) (step : Step) → RowsKeep c.receivers (in_step c step).receivers
+pub step_rows : (c : Client) (step : Step) → RowsKeep c.receivers (in_step c step).receivers
 step_rows c step = rows_mapped (begun step) c.receivers (λ r. begun_kept step r (is_in step r))
 
 begins_fine : (c : Client) (image : List ℕ) (step : Step) (b : Bool) → Fine c (begins_if c image step b)
@@ -103,7 +103,7 @@ counted_kept : (step : Step) (r : Receiver) (b : Bool) → Keeps r.row (counted_
 counted_kept step r true = silent_if_kept step (with_silent (silent_after step r) r) (nat_le 5 (silent_after step r))
 counted_kept step r false = same r.row
 
-counting_rows : (c : Client) (step : Step) → RowsKeep c.receivers (after_counting c step).receivers
+pub counting_rows : (c : Client) (step : Step) → RowsKeep c.receivers (after_counting c step).receivers
 counting_rows c step = rows_mapped (round_counted step) c.receivers (λ r. counted_kept step r r.pending)
 
 round_or_fine : (c : Client) (image : List ℕ) (step : Step) (b : Bool) → Fine c (round_or_next c image step b)

@@ -16,3 +16,6 @@ pub mod Puts
 pub mod Counts
 pub mod Work
 pub mod Ranges
+pub mod ClientPlan
+pub mod Planned
+pub mod Offered

@@ -69,7 +69,7 @@ taken_soundly law address s from (OfReceiver answer) fits h = hears_soundly s fr
 
 -- ---- events
 
-moved : (s : DistState) (now : ℕ) → IsDistState s → IsDistState (at_moment s now)
+pub moved : (s : DistState) (now : ℕ) → IsDistState s → IsDistState (at_moment s now)
 moved s now h = record { durable = h.durable; fresh = h.fresh; current = h.current; client = h.client; progress = h.progress; percents = h.percents }
 
 packet_soundly : RequestsKeepStatesSound → (address : ℕ) (s : DistState) (from : ℕ) (taken : Option Taken) → MatchOption taken (Unit {0}) TakenFits → IsDistState s → IsDistState (on_packet address s from taken).next
@@ -78,7 +78,7 @@ packet_soundly law address s from None fits h = h
 
 event_soundly : RequestsKeepStatesSound → (address : ℕ) (s : DistState) (event : NodeEvent) → EventFits event → IsDistState s → IsDistState (on_event address s event).next
 event_soundly law address s (PacketComes packet) fits h =
-    elim (packet.to == address) as (λ b. IsDistState (cond b (on_packet address s packet.from (taken_at packet.payload)) (record { next = s; sent = []; handled = false; work = Untouched })).next) [
+    elim (packet.to == address) as (λ b. IsDistState (cond b (on_packet address s packet.from (taken_at packet.payload)) (record { next = s; sends = []; sent = []; handled = false; work = Untouched })).next) [
       | true ↦ packet_soundly law address s packet.from (taken_at packet.payload) fits h
       | false ↦ h
     ]
@@ -88,7 +88,7 @@ pub events_keep : RequestsKeepStatesSound → EventsKeepStatesSound
 events_keep law address s event now fits h = event_soundly law address (at_moment s now) event fits (moved s now h)
 
 -- before its client begins
-abbrev awake : DistDurable → DistState
+abbrev pub awake : DistDurable → DistState
 awake d = record { durable = d; fresh = 0; lags = is_broken_off d.upload; session = asleep; client = None; progress = no_progress d.receivers; moment = 0 }
 
 pub boots_are_sound : BootsAreSound

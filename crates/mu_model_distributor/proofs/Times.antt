@@ -100,7 +100,7 @@ server_sound s serving h =
       percents = h.percents;
     })
 
-server_client : (s : DistState) (link : Link) (upload : Upload) → (broken_by link upload s).client ≡ s.client
+pub server_client : (s : DistState) (link : Link) (upload : Upload) → (broken_by link upload s).client ≡ s.client
 server_client s Cut (Uploading j) = refl
 server_client s Cut NoUpload = refl
 server_client s Cut (Broken job) = refl
@@ -185,7 +185,7 @@ fits_true octets meta e = record {
   digest = grind (arith, nat_tests, bytes_eq-Decides (sha256 octets) meta.digest);
 }
 
-run_is : (lags : Bool) (upload : Upload) (j : UploadJob) → run_by lags upload ≡ Uploading j → upload ≡ Uploading j
+pub run_is : (lags : Bool) (upload : Upload) (j : UploadJob) → run_by lags upload ≡ Uploading j → upload ≡ Uploading j
 run_is true NoUpload j e = cc
 run_is true (Uploading x) j e = cc
 run_is true (Broken job) j e = cc

@@ -31,7 +31,7 @@ use Rattle.mu_model_distributor.specs.Distribution.{with_client, distribution_st
 use Rattle.mu_model_distributor.specs.Uploads.{with_session, upload_status, upload_start, upload_cancel}
 use Rattle.mu_model_distributor.specs.Firmware.{no_index, firmware_status, firmware_delete, firmware_delete_all}
 use Rattle.mu_model_distributor.specs.DistTable.{on_request, upload_changed, blob_changed, blob_work, by_blob, served, hears, on_taken}
-use Rattle.mu_model_distributor.specs.DistTime.{is_whole, verifies, server_waits, octets_of, has_turns, client_turns, client_waits, waits, on_time}
+use Rattle.mu_model_distributor.specs.DistTime.{is_whole, verifies, server_waits, octets_of, has_turns, after_turn, client_turns, client_waits, waits, on_time}
 use Rattle.mu_model_distributor.specs.DistEvents.{DistStep, at_moment, on_packet, on_event, dist_step}
 use Rattle.mu_model_distributor.specs.Sound.{IsUploadJob, HasUploadJob, HasCurrent, IsDistDurable, IsDistState, TakenFits}
 use Rattle.mu_model_distributor.specs.Laws.{EventFits, blocks_held, PassesFrom, StatesPassRising, WorkLeavesOldOrNew, WorkLeadsToTheNew, pages_put, WorkIsBounded, IsLongBy, RecordsAreLongByReceivers, RecordsSaySomething}
@@ -39,7 +39,7 @@ use Rattle.mu_model_distributor.proofs.Same.{same_durable_true, same_durable_ref
 use Rattle.mu_model_distributor.proofs.Served.{ServedSoundly}
 use Rattle.mu_model_distributor.proofs.Blobs.{JobFacts, job_facts}
 use Rattle.mu_model_distributor.proofs.Puts.{PutsIn, puts_in, IsComingIn, comes_in, count_put, at_put, few_pages}
-use Rattle.mu_model_distributor.proofs.Counts.{SameCount, Counts, add_counts, delete_counts, start_counts, suspend_counts, cancel_counts, apply_counts, upload_counts, firmware_counts, all_counts, verified_counts, broken_counts, turn_counts}
+use Rattle.mu_model_distributor.proofs.Counts.{SameCount, then_counts, Counts, add_counts, delete_counts, start_counts, suspend_counts, cancel_counts, apply_counts, upload_counts, firmware_counts, all_counts, verified_counts, broken_counts, turn_counts}
 
 -- what the work of an event says of the durable state after it
 abbrev pub WorkIs : DistDurable → DistDurable → FlashWork → Type 0
@@ -52,7 +52,7 @@ WorkIs old new (PutBlock pages) = (pages ≤ 4) × (new.count ≡ old.count) × 
 
 ended_by : (s t : DistState) (b : Bool) → same_durable s.durable t.durable ≡ b → SameCount s t → WorkIs s.durable (recorded_if t b).durable (work_to t b)
 ended_by s t true e h = sym (same_durable_true s.durable t.durable e)
-ended_by s t false e h = (ap (λ n. n + 1) h, refl)
+ended_by s t false e h = (ap (λ n. n + 1) h.0, refl)
 
 pub ended : (s t : DistState) → SameCount s t → WorkIs s.durable (committed s t).durable (work_to t (same_durable s.durable t.durable))
 ended s t h = ended_by s t (same_durable s.durable t.durable) refl h
@@ -74,7 +74,7 @@ request_writes address s to DistributionApply = led s to distribution_status (di
 request_writes address s to UploadGet = refl
 request_writes address s to (StartUpload u) = led s to upload_status (upload_start s u (run_upload s)) (upload_counts s u (run_upload s))
 request_writes address s to StartUploadOob = refl
-request_writes address s to UploadCancel = ended s (upload_cancel s) refl
+request_writes address s to UploadCancel = ended s (upload_cancel s) (refl, omega arith)
 request_writes address s to (FirmwareGet fwid) = refl
 request_writes address s to (FirmwareGetByIndex index) = refl
 request_writes address s to (FirmwareDelete fwid) = led s to (firmware_status no_index (Some fwid)) (firmware_delete s fwid) (firmware_counts s fwid)
@@ -82,7 +82,7 @@ request_writes address s to FirmwareDeleteAll = led s to (firmware_status no_ind
 
 hears_writes : (s : DistState) (from : ℕ) (answer : Answer) (client : Option Client) → WorkIs s.durable (hears s from answer client).next.durable (hears s from answer client).work
 hears_writes s from answer None = refl
-hears_writes s from answer (Some c) = ended s (with_client s (told c from answer s.moment)) refl
+hears_writes s from answer (Some c) = ended s (with_client s (told c from answer s.moment)) (refl, omega arith)
 
 -- ---- a BLOB message
 
@@ -171,7 +171,7 @@ client_writes address s t reports None e = ended s t e
 client_writes address s t reports (Some c) e = by_phase (has_turns t.durable.phase)
   where
     by_phase : (b : Bool) → WorkIs s.durable (cond b (client_turns address s t reports (due c (octets_of (offered t.durable)) t.moment)) (ends s t (λ u. reports))).next.durable (cond b (client_turns address s t reports (due c (octets_of (offered t.durable)) t.moment)) (ends s t (λ u. reports))).work
-    by_phase true = ended s _ (turn_counts address t (due c (octets_of (offered t.durable)) t.moment).next ∙ e)
+    by_phase true = ended s (after_turn address t (due c (octets_of (offered t.durable)) t.moment).next) (then_counts s t (after_turn address t (due c (octets_of (offered t.durable)) t.moment).next) e (turn_counts address t (due c (octets_of (offered t.durable)) t.moment).next))
     by_phase false = ended s t e
 
 waits_write : (address : ℕ) (s : DistState) (o : Served) → WorkIs s.durable (waits address s o).next.durable (waits address s o).work
@@ -200,7 +200,7 @@ packet_writes law address s from None fits h = refl
 
 event_writes : RequestsKeepStatesSound → (address : ℕ) (s : DistState) (event : NodeEvent) → EventFits event → IsDistState s → WorkIs s.durable (on_event address s event).next.durable (on_event address s event).work
 event_writes law address s (PacketComes packet) fits h =
-    elim (packet.to == address) as (λ b. WorkIs s.durable (cond b (on_packet address s packet.from (taken_at packet.payload)) (record { next = s; sent = []; handled = false; work = Untouched })).next.durable (cond b (on_packet address s packet.from (taken_at packet.payload)) (record { next = s; sent = []; handled = false; work = Untouched })).work) [
+    elim (packet.to == address) as (λ b. WorkIs s.durable (cond b (on_packet address s packet.from (taken_at packet.payload)) (record { next = s; sends = []; sent = []; handled = false; work = Untouched })).next.durable (cond b (on_packet address s packet.from (taken_at packet.payload)) (record { next = s; sends = []; sent = []; handled = false; work = Untouched })).work) [
       | true ↦ packet_writes law address s packet.from (taken_at packet.payload) fits h
       | false ↦ refl
     ]

@@ -14,6 +14,7 @@ pub mod DistEvents
 pub mod Runs
 pub mod Sound
 pub mod Laws
+pub mod Planned
 pub mod Scenes
 pub mod Worked
 pub mod WorkedUploads
