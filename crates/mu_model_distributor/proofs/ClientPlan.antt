@@ -1,22 +1,17 @@
 -- What a client's events send is its plan, and so is what it has still to send.
-use Rattle.std.proofs.Common.{◌≡◌, ◌≤◌, ℕ, zero, suc, ◌+◌, Bool, true, false, List, [], ◌∷◌, ◌++◌, length, map, take, drop, refl, sym, ap, subst, ◌∙◌, cond, arith, Option, Some, None, ◌⊎◌, inl, inr, ⊎_elim}
-use Rattle.std.specs.Prelude.{⊤, ◌==◌, nat_le}
+use Rattle.std.proofs.Common.{◌≡◌, ℕ, zero, suc, ◌+◌, Bool, true, false, List, [], ◌∷◌, ◌++◌, map, take, drop, refl, sym, ◌∙◌, Option, inl, inr}
+use Rattle.std.specs.Prelude.{nat_le}
 use Rattle.std.specs.List.{AllByRecursion, list_any, flat_map}
 use Rattle.mu_model_node.specs.UpdateMessages.{UpdateRequest, InformationGet, MetadataCheck, UpdateGet, StartUpdate, UpdateCancel, UpdateApply}
 use Rattle.mu_model_node.specs.NodeMessages.{Request, OfUpdate, OfBlob}
 use Rattle.mu_model_client.specs.declared.Sending.{Sending}
 use Rattle.mu_model_client.specs.Sets.{below}
-use Rattle.mu_model_client.specs.Answers.{Answer}
 use Rattle.mu_model_client.specs.Rows.{Row}
 use Rattle.mu_model_client.specs.Client.{Purpose, Step, Check, Start, Information, Transfer, Block, Chunks, Pull, Get, Verify, Apply, Confirm, Cancel, Receiver, is_pending, is_begun_for, Item, Says, Sends, Place, Before, At, Verified, Ended, Client, at_moment, row_of, rows, chunk_total, round_time}
 use Rattle.mu_model_client.specs.Lists.{step_message, pull_again, again_message, said_to, said_if, messages, lacking, destinations, chunk_items, missing_of, wanted_of, first_list, sent_for}
-use Rattle.mu_model_client.specs.Begin.{take_apply, take_cancel}
-use Rattle.mu_model_client.specs.Told.{told}
-use Rattle.mu_model_client.specs.Due.{Due, Next, Go, Rests, Ends, sends, sends_nothing, after, in_step, first_of, begins_if, goes_on, next_step, unheard, new_round, round_or_next, round_ends, after_counting, if_round_over, by_round, by_wanted, list_is_sent, by_list, is_done, by_step, by_place, due}
-use Rattle.mu_model_distributor.specs.Sound.{AnswerFits}
-use Rattle.mu_model_distributor.specs.Planned.{HasRow, IsStart, IsAsked, IsItem}
-use Rattle.mu_model_distributor.proofs.ClientRows.{Keeps}
-use Rattle.mu_model_distributor.proofs.ClientDue.{RowsKeep, step_rows, counting_rows}
+use Rattle.mu_model_client.specs.Due.{Due, Next, Go, Rests, Ends, sends, after, in_step, begins_if, goes_on, next_step, round_or_next, after_counting, if_round_over, by_round, by_wanted, list_is_sent, by_list, is_done, by_step, by_place, due}
+use Rattle.mu_model_distributor.specs.Planned.{HasRow, IsAsked, IsItem}
+use Rattle.mu_model_distributor.proofs.ClientDue.{RowsKeep, times_keep, step_rows, counting_rows}
 
 -- ---- rows that stand
 
@@ -168,7 +163,7 @@ sends_right given c image items h = record { sending = refl; purpose = refl; que
 
 begins_right : (given : List Row) (c : Client) (image : List ℕ) (step : Step) (b : Bool) → Within (rows c) given → Right given c (begins_if c image step b)
 begins_right given c image step true w =
-    let back : Within (rows (in_step c step)) (rows c) = within_back c.receivers (in_step c step).receivers (step_rows c step) in
+    let back : Within (rows (in_step c step)) (rows c) = within_back c.receivers (in_step c step).receivers (times_keep _ _ (step_rows c step)) in
     let items = first_right c.sending c.purpose given (in_step c step).receivers step (λ to index h. w to index (back to index h)) in
     record { sending = refl; purpose = refl; queue = items_drop c.sending c.purpose given 16 _ items; packets = sent_are c.sending c.purpose given image 16 _ items }
 begins_right given c image step false w = record { sending = refl; purpose = refl; queue = tt; packets = tt }
@@ -189,7 +184,7 @@ round_or_right given c image step false w = next_right given c image step w
 
 round_over_right : (given : List Row) (c : Client) (image : List ℕ) (step : Step) (b : Bool) → Items c.sending c.purpose given c.queue → Within (rows c) given → Right given c (if_round_over c image step b)
 round_over_right given c image step true h w =
-    let back : Within (rows (after_counting c step)) (rows c) = within_back c.receivers (after_counting c step).receivers (counting_rows c step) in
+    let back : Within (rows (after_counting c step)) (rows c) = within_back c.receivers (after_counting c step).receivers (times_keep _ _ (counting_rows c step)) in
     let k = round_or_right given (after_counting c step) image step (list_any is_pending (after_counting c step).receivers) (λ to index x. w to index (back to index x)) in
     record { sending = k.sending; purpose = k.purpose; queue = k.queue; packets = k.packets }
 round_over_right given c image step false h w = record { sending = refl; purpose = refl; queue = h; packets = tt }

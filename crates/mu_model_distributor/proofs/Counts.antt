@@ -3,10 +3,8 @@ use Rattle.std.proofs.Common.{◌≡◌, ◌≤◌, ℕ, Bool, true, false, List
 use Rattle.std.specs.Prelude.{⊤, ◌==◌, not, nat_lt, nat_le, is_none}
 use Rattle.std.specs.List.{list_any}
 use Rattle.mu_model_image.specs.declared.Meta.{Meta}
-use Rattle.mu_model_image.specs.Meta.{is_fit}
 use Rattle.mu_model_node.specs.declared.Link.{Link}
 use Rattle.mu_model_node.specs.declared.Link.TheVariants.{Cut, Ready, Running}
-use Rattle.mu_model_node.specs.BlobTable.{Served}
 use Rattle.mu_model_client.specs.declared.Stage.{Stage}
 use Rattle.mu_model_client.specs.declared.Stage.TheVariants.{Transfer, Verified, Applying, Canceling, Ended}
 use Rattle.mu_model_client.specs.Client.{Client, is_active}
@@ -14,10 +12,10 @@ use Rattle.mu_model_client.specs.Begin.{stage_of}
 use Rattle.mu_model_distributor.specs.Requests.{Settings, Entry, UploadStart}
 use Rattle.mu_model_distributor.specs.DistState.{UploadJob, Upload, NoUpload, Uploading, Broken, Uploaded, run_upload, DistPhase, Idle, TransferActive, TransferSuccess, ApplyingUpdate, Completed, Failed, CancelingUpdate, TransferSuspended, DistState, is_at_rest}
 use Rattle.mu_model_distributor.specs.Receivers.{added, is_idle, receivers_add, receivers_delete_all, empty_banks}
-use Rattle.mu_model_distributor.specs.Distribution.{in_phase, at_rest, with_client, are_settings, is_uploading, begun, begins, resumes, distribution_start, distribution_suspend, cancels, distribution_cancel, applies, distribution_apply}
-use Rattle.mu_model_distributor.specs.Uploads.{offered_meta, same_upload_start, has_image, finds, takes_in, takes, resumes as resumes_upload, takes_or_resumes, offers, upload_start, with_session}
-use Rattle.mu_model_distributor.specs.Firmware.{has_id, index_of, is_in_upload, firmware_delete, firmware_delete_all}
-use Rattle.mu_model_distributor.specs.DistTime.{verified, broken_by, server_waits, has_phase, goes_on_by, goes_on, has_verified, has_applied, advanced, after_turn}
+use Rattle.mu_model_distributor.specs.Distribution.{in_phase, with_client, are_settings, is_uploading, begins, distribution_start, distribution_suspend, cancels, distribution_cancel, applies, distribution_apply}
+use Rattle.mu_model_distributor.specs.Uploads.{offered_meta, same_upload_start, has_image, takes_in, takes_or_resumes, offers, upload_start}
+use Rattle.mu_model_distributor.specs.Firmware.{index_of, is_in_upload, firmware_delete, firmware_delete_all}
+use Rattle.mu_model_distributor.specs.DistTime.{verified, broken_by, has_phase, goes_on_by, has_verified, advanced, after_turn}
 
 -- the record count stands, and the distribution's number doesn't fall
 abbrev pub SameCount : DistState → DistState → Type 0

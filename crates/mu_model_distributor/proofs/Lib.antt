@@ -19,3 +19,5 @@ pub mod Ranges
 pub mod ClientPlan
 pub mod Planned
 pub mod Offered
+pub mod RowMoves
+pub mod Counters

@@ -1,6 +1,6 @@
 -- Each Update Start that a distributor sends is what each durable state that the event goes through offers.
-use Rattle.std.proofs.Common.{◌≡◌, ◌≤◌, ℕ, ◌+◌, Bool, true, false, List, [], ◌∷◌, ◌++◌, length, map, refl, sym, ap, subst, ◌∙◌, cond, arith, Option, Some, None, Result, Ok, Err, ◌⊎◌, inl, inr}
-use Rattle.std.specs.Prelude.{⊤, ◌==◌, not, MatchOption}
+use Rattle.std.proofs.Common.{◌≡◌, ℕ, Bool, true, false, List, [], ◌∷◌, ◌++◌, map, refl, sym, ap, subst, ◌∙◌, cond, Option, Some, None, Result, Ok, Err, inl, inr}
+use Rattle.std.specs.Prelude.{◌==◌, not}
 use Rattle.std.specs.List.{AllByRecursion, filter, list_any}
 use Rattle.mu_model_node.specs.declared.Link.{Link}
 use Rattle.mu_model_node.specs.declared.Link.TheVariants.{Cut, Ready, Running}
@@ -25,7 +25,7 @@ use Rattle.mu_model_client.specs.Due.{due}
 use Rattle.mu_model_distributor.specs.Requests.{DistRequest, ReceiversAdd, ReceiversDeleteAll, ReceiversGet, CapabilitiesGet, DistributionGet, DistributionStart, DistributionSuspend, DistributionCancel, DistributionApply, UploadGet, StartUpload, StartUploadOob, UploadCancel, FirmwareGet, FirmwareGetByIndex, FirmwareDelete, FirmwareDeleteAll}
 use Rattle.mu_model_distributor.specs.Replies.{DistReply}
 use Rattle.mu_model_distributor.specs.DistMessages.{Taken, OfDistribution, OfBlob, OfReceiver, taken_at, Sent, ByClient}
-use Rattle.mu_model_distributor.specs.DistState.{Receiver, UploadJob, Upload, NoUpload, Uploading, Broken, Uploaded, run_upload, DistPhase, Idle, TransferActive, TransferSuccess, ApplyingUpdate, Completed, Failed, CancelingUpdate, TransferSuspended, DistDurable, DistState, is_at_rest, server_of, receiver_of, offered}
+use Rattle.mu_model_distributor.specs.DistState.{Receiver, Upload, NoUpload, Uploading, Broken, Uploaded, run_upload, DistPhase, Idle, TransferActive, TransferSuccess, ApplyingUpdate, Completed, Failed, CancelingUpdate, TransferSuspended, DistDurable, DistState, is_at_rest, server_of, receiver_of, offered}
 use Rattle.mu_model_distributor.specs.Same.{same_durable}
 use Rattle.mu_model_distributor.specs.Commit.{recorded_if, committed, ends, answered}
 use Rattle.mu_model_distributor.specs.Receivers.{receivers_status, receivers_add, receivers_delete_all}
@@ -33,16 +33,15 @@ use Rattle.mu_model_distributor.specs.Distribution.{plan_of, with_client, in_pha
 use Rattle.mu_model_distributor.specs.Uploads.{with_session, upload_status, upload_start}
 use Rattle.mu_model_distributor.specs.Firmware.{no_index, firmware_status, firmware_delete, firmware_delete_all}
 use Rattle.mu_model_distributor.specs.DistTable.{by_blob, on_request, hears, on_taken}
-use Rattle.mu_model_distributor.specs.DistTime.{is_whole, verifies, broken_by, server_waits, has_phase, goes_on_by, goes_on, has_verified, has_applied, advanced, after_turn, is_apply, sent_in, by_client, octets_of, has_turns, client_turns, client_waits, waits, on_time}
+use Rattle.mu_model_distributor.specs.DistTime.{is_whole, verifies, broken_by, server_waits, has_phase, goes_on_by, goes_on, has_verified, advanced, after_turn, is_apply, sent_in, by_client, octets_of, has_turns, client_turns, client_waits, waits, on_time}
 use Rattle.mu_model_distributor.specs.DistEvents.{passed_over, at_moment, on_packet, on_event, dist_step}
-use Rattle.mu_model_distributor.specs.Sound.{HasRows, HasClient, IsDistState}
-use Rattle.mu_model_distributor.specs.Planned.{HasRow, IsStart, IsAsked, DoesPlan, IsPlanned, HasReceiver, IsOffered, IsSentAs, StartsAreOffered}
-use Rattle.mu_model_distributor.proofs.ClientDue.{RowsKeep, due_rows}
-use Rattle.mu_model_distributor.proofs.ClientPlan.{Packets, within_kept, Right, due_right}
+use Rattle.mu_model_distributor.specs.Sound.{HasRows, IsDistState}
+use Rattle.mu_model_distributor.specs.Planned.{HasRow, IsAsked, DoesPlan, IsPlanned, HasReceiver, IsSentAs, StartsAreOffered}
+use Rattle.mu_model_distributor.proofs.ClientDue.{due_rows}
+use Rattle.mu_model_distributor.proofs.ClientPlan.{Packets, within_kept, due_right}
 use Rattle.mu_model_distributor.proofs.Moved.{has_rows}
 use Rattle.mu_model_distributor.proofs.Planned.{own_plan, planned_at}
 use Rattle.mu_model_distributor.proofs.Steps.{moved}
-use Rattle.mu_model_distributor.proofs.Times.{server_client}
 
 abbrev Offers : ℕ → DistDurable → List (ℕ × Sent) → Type 0
 Offers address d sends = AllByRecursion (IsSentAs address d) sends
@@ -159,7 +158,7 @@ still_does address d e c same h =
     record { sending = h.sending ∙ sym (ap (λ (p : Plan). p.sending) plan); purpose = h.purpose ∙ sym (ap purpose_of plan); queue = h.queue }
 
 -- and its receivers
-abbrev Goes : DistDurable → DistDurable → Type 0
+abbrev pub Goes : DistDurable → DistDurable → Type 0
 Goes d e = SameOffer d e × (e.receivers ≡ d.receivers)
 
 goes_same : (d : DistDurable) → Goes d d
@@ -169,10 +168,10 @@ recorded_goes : (t : DistState) (b : Bool) → Goes t.durable (recorded_if t b).
 recorded_goes t true = ((refl, refl, refl), refl)
 recorded_goes t false = ((refl, refl, refl), refl)
 
-committed_goes : (s t : DistState) → Goes t.durable (committed s t).durable
+pub committed_goes : (s t : DistState) → Goes t.durable (committed s t).durable
 committed_goes s t = recorded_goes t (same_durable s.durable t.durable)
 
-broken_goes : (s : DistState) (link : Link) (upload : Upload) → Goes s.durable (broken_by link upload s).durable
+pub broken_goes : (s : DistState) (link : Link) (upload : Upload) → Goes s.durable (broken_by link upload s).durable
 broken_goes s Cut (Uploading j) = ((refl, refl, refl), refl)
 broken_goes s Cut NoUpload = ((refl, refl, refl), refl)
 broken_goes s Cut (Broken job) = ((refl, refl, refl), refl)
@@ -193,7 +192,7 @@ verifying_goes address s c =
     let p : DistPhase = cond (s.durable.settings.policy == 1) ApplyingUpdate TransferSuccess in
     either s.durable (not (has_phase s.durable.receivers (4 ∷ 6 ∷ 8 ∷ []))) (at_rest s Failed) (goes_on address s c p) ((refl, refl, refl), refl) (going_goes address (in_phase s p) (list_any is_active c.receivers))
 
-advanced_goes : (address : ℕ) (s : DistState) (c : Client) (p : DistPhase) (stage : Stage) → Goes s.durable (advanced address s c p stage).durable
+pub advanced_goes : (address : ℕ) (s : DistState) (c : Client) (p : DistPhase) (stage : Stage) → Goes s.durable (advanced address s c p stage).durable
 advanced_goes address s c TransferActive Transfer = goes_same s.durable
 advanced_goes address s c TransferActive Verified = verifying_goes address s c
 advanced_goes address s c TransferActive Applying = verifying_goes address s c

@@ -1,17 +1,15 @@
 -- The client of a distributor does what the distribution asks.
-use Rattle.std.proofs.Common.{◌≡◌, ◌<◌, ◌≤◌, ℕ, ◌+◌, Bool, true, false, List, [], ◌∷◌, ◌++◌, length, map, refl, sym, ap, subst, ◌∙◌, cond, arith, Option, Some, None, Result, Ok, Err, ◌⊎◌, inl, inr}
+use Rattle.std.proofs.Common.{◌≡◌, ℕ, Bool, true, false, List, [], ◌∷◌, length, map, refl, sym, ap, subst, ◌∙◌, cond, Option, Some, None, Result, Ok, Err}
 use Rattle.std.specs.Prelude.{⊤, ◌==◌, not, nat_le, nat_lt, is_none, MatchOption}
-use Rattle.std.specs.List.{AllByRecursion, list_any}
+use Rattle.std.specs.List.{list_any}
 use Rattle.mu_model_image.specs.declared.Meta.{Meta}
 use Rattle.mu_model_image.specs.Meta.{is_fit}
 use Rattle.mu_model_node.specs.Slots.{joined}
 use Rattle.mu_model_node.specs.declared.Link.{Link}
 use Rattle.mu_model_node.specs.declared.Link.TheVariants.{Cut, Ready, Running}
 use Rattle.mu_model_node.specs.BlobServer.{Session, Change, Same, Begins, Drops, Puts}
-use Rattle.mu_model_node.specs.BlobMessages.{BlobRequest}
 use Rattle.mu_model_node.specs.BlobTable.{Served, on_blob, on_server_time}
 use Rattle.mu_model_node.specs.Events.{NodeEvent, PacketComes, TimeComes}
-use Rattle.mu_model_node.specs.Laws.{RequestsKeepStatesSound}
 use Rattle.mu_model_client.specs.declared.Plan.{Plan}
 use Rattle.mu_model_client.specs.declared.Stage.{Stage}
 use Rattle.mu_model_client.specs.declared.Stage.TheVariants.{Transfer, Verified, Applying, Canceling, Ended}
@@ -19,25 +17,25 @@ use Rattle.mu_model_client.specs.Answers.{Answer}
 use Rattle.mu_model_client.specs.Rows.{Row}
 use Rattle.mu_model_client.specs.Client.{Client, is_active, rows}
 use Rattle.mu_model_client.specs.Told.{told}
-use Rattle.mu_model_client.specs.Begin.{stage_of, take_apply, take_cancel, purpose_of}
+use Rattle.mu_model_client.specs.Begin.{stage_of, purpose_of}
 use Rattle.mu_model_client.specs.Due.{due}
 use Rattle.mu_model_distributor.specs.Requests.{Settings, Entry, UploadStart, DistRequest, ReceiversAdd, ReceiversDeleteAll, ReceiversGet, CapabilitiesGet, DistributionGet, DistributionStart, DistributionSuspend, DistributionCancel, DistributionApply, UploadGet, StartUpload, StartUploadOob, UploadCancel, FirmwareGet, FirmwareGetByIndex, FirmwareDelete, FirmwareDeleteAll}
 use Rattle.mu_model_distributor.specs.Replies.{DistReply}
 use Rattle.mu_model_distributor.specs.DistMessages.{Taken, OfDistribution, OfBlob, OfReceiver, taken_at, Sent}
 use Rattle.mu_model_distributor.specs.DistState.{StoredImage, UploadJob, Upload, NoUpload, Uploading, Broken, Uploaded, run_upload, DistPhase, Idle, TransferActive, TransferSuccess, ApplyingUpdate, Completed, Failed, CancelingUpdate, TransferSuspended, DistDurable, DistState, is_at_rest, server_of, rows_of, offered}
-use Rattle.mu_model_distributor.specs.Commit.{recorded, recorded_if, committed, ends, answered}
+use Rattle.mu_model_distributor.specs.Commit.{recorded_if, committed, ends, answered}
 use Rattle.mu_model_distributor.specs.Receivers.{added, is_idle, empty_banks, receivers_status, receivers_add, receivers_delete_all}
-use Rattle.mu_model_distributor.specs.Distribution.{plan_of, stage_in, begun_at, client_begun, with_client, in_phase, at_rest, are_settings, is_uploading, next_distribution, begins, resumes, distribution_status, distribution_start, distribution_suspend, cancels, distribution_cancel, applies, distribution_apply}
+use Rattle.mu_model_distributor.specs.Distribution.{plan_of, stage_in, begun_at, client_begun, with_client, in_phase, at_rest, are_settings, is_uploading, next_distribution, begins, distribution_status, distribution_start, distribution_suspend, cancels, distribution_cancel, applies, distribution_apply}
 use Rattle.mu_model_distributor.specs.Uploads.{with_session, offered_meta, same_upload_start, has_image, takes_in, takes_or_resumes, offers, upload_status, upload_start, upload_cancel}
 use Rattle.mu_model_distributor.specs.Firmware.{index_of, with_images, is_in_upload, no_index, firmware_status, firmware_delete, firmware_delete_all}
-use Rattle.mu_model_distributor.specs.DistTable.{by_blob, on_request, blob_changed, served, hears, on_taken}
-use Rattle.mu_model_distributor.specs.DistTime.{is_whole, verified, verifies, broken_by, server_waits, has_phase, goes_on_by, goes_on, has_verified, has_applied, advanced, after_turn, octets_of, has_turns, client_turns, client_waits, waits, on_time}
-use Rattle.mu_model_distributor.specs.DistEvents.{passed_over, at_moment, on_packet, on_event, dist_step, restarted}
+use Rattle.mu_model_distributor.specs.DistTable.{by_blob, on_request, blob_changed, hears, on_taken}
+use Rattle.mu_model_distributor.specs.DistTime.{is_whole, verified, verifies, broken_by, server_waits, has_phase, goes_on_by, goes_on, has_verified, advanced, after_turn, octets_of, has_turns, client_turns, client_waits, waits, on_time}
+use Rattle.mu_model_distributor.specs.DistEvents.{passed_over, at_moment, on_packet, on_event}
 use Rattle.mu_model_distributor.specs.Sound.{HasUpload, HasClient, IsDistState, AnswerFits, TakenFits}
 use Rattle.mu_model_distributor.specs.Laws.{EventFits}
 use Rattle.mu_model_distributor.specs.Planned.{DoesPlan, IsPlanned, EventsKeepPlanned, BootsArePlanned}
 use Rattle.mu_model_distributor.proofs.ClientDue.{told_rows, due_rows}
-use Rattle.mu_model_distributor.proofs.ClientPlan.{Items, within_kept, items_within, Right, due_right}
+use Rattle.mu_model_distributor.proofs.ClientPlan.{within_kept, items_within, Right, due_right}
 use Rattle.mu_model_distributor.proofs.Times.{server_client, run_is}
 use Rattle.mu_model_distributor.proofs.Steps.{awake, moved}
 

@@ -1,18 +1,18 @@
 -- Which BLOB messages put a block: the last chunk of the current block.
-use Rattle.std.proofs.Common.{◌≡◌, ◌<◌, ◌≤◌, ℕ, zero, suc, ◌+◌, ◌-◌, ◌*◌, ◌^◌, min, Bool, true, false, List, [], ◌∷◌, length, refl, sym, ap, subst, ◌∙◌, cond, arith, Option, Some, None, ◌⊎◌, inl, inr}
+use Rattle.std.proofs.Common.{◌≡◌, ◌<◌, ◌≤◌, ℕ, zero, suc, ◌+◌, ◌-◌, ◌*◌, ◌^◌, min, Bool, true, false, List, [], ◌∷◌, length, refl, ap, ◌∙◌, cond, arith, Option, Some, None}
 use Rattle.std.specs.Prelude.{⊤, ◌==◌, ◌&&◌, ◌||◌, not, nat_lt, nat_le, is_some}
 use Rattle.std.proofs.lemmas.List.Sums.{sum_by-cons}
 use Rattle.std.proofs.Math.Pow.{pow_mono}
-use Rattle.mu_model_image.specs.Pieces.{piece_count, block_count, block_length, chunk_length}
+use Rattle.mu_model_image.specs.Pieces.{piece_count, block_length, chunk_length}
 use Rattle.mu_model_node.specs.declared.Link.{Link}
 use Rattle.mu_model_node.specs.declared.Link.TheVariants.{Cut, Ready, Running}
 use Rattle.mu_model_node.specs.declared.Parameters.{Parameters}
 use Rattle.mu_model_node.specs.declared.LastBlock.{LastBlock}
 use Rattle.mu_model_node.specs.Slots.{Slots, at, put, is_full, held_count}
 use Rattle.mu_model_node.specs.BlobMessages.{BlobRequest, BlobInformationGet, TransferGet, TransferStart, TransferCancel, BlockStart, BlockGet, ChunkTransfer, least_log, most_log, least_chunk, most_chunk}
-use Rattle.mu_model_node.specs.BlobServer.{Transfer, CurrentBlock, Session, Serving, NoJob, Lacking, Whole, Server, BlobPhase, Inactive, WaitingForStart, NextBlock, NextChunk, Complete, Suspended, running_phase, transfer_phase, serving_phase, server_phase, heard_at, Change, Same, Begins, Drops, Puts, changed}
-use Rattle.mu_model_node.specs.BlobTable.{Served, tell, silently, refuse, same_parameters, are_parameters, is_ready, starts, resumes, repeats, for_id, on_transfer_start, drop_transfer, on_transfer_cancel, held_again, opens, on_block_start, tell_last, on_block_get, completes, receives, on_chunk_transfer, on_blob}
-use Rattle.mu_model_node.specs.Sound.{AreBlocks, HasBlocks}
+use Rattle.mu_model_node.specs.BlobServer.{Transfer, CurrentBlock, Session, Serving, NoJob, Lacking, Whole, Server, BlobPhase, Inactive, WaitingForStart, NextBlock, NextChunk, Complete, Suspended, running_phase, transfer_phase, serving_phase, server_phase, heard_at, Change, Same, Begins, Drops, Puts}
+use Rattle.mu_model_node.specs.BlobTable.{Served, silently, refuse, same_parameters, are_parameters, is_ready, starts, resumes, repeats, for_id, on_transfer_start, drop_transfer, on_transfer_cancel, on_block_start, tell_last, on_block_get, completes, on_chunk_transfer, on_blob}
+use Rattle.mu_model_node.specs.Sound.{AreBlocks}
 
 -- a block that is put is the current one
 abbrev pub PutsIn : BlobPhase → Change → Type 0

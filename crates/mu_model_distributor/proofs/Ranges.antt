@@ -1,16 +1,16 @@
 -- What octets say is in the ranges of the grammar.
-use Rattle.std.proofs.Common.{◌≡◌, ◌<◌, ◌≤◌, ℕ, zero, suc, ◌^◌, Bool, true, false, List, [], ◌∷◌, ◌++◌, length, map, take, refl, sym, ap, subst, ◌∙◌, cond, arith, Option, Some, None, Result, Ok, Err}
-use Rattle.std.specs.Prelude.{⊤, ◌==◌, MatchOption, MatchBool, slice_index}
+use Rattle.std.proofs.Common.{◌≡◌, ◌<◌, ◌≤◌, ℕ, zero, suc, Bool, true, false, List, [], ◌∷◌, ◌++◌, length, map, refl, subst, cond, arith, Option, Some, None, Result, Ok, Err}
+use Rattle.std.specs.Prelude.{◌==◌, MatchOption, MatchBool}
 use Rattle.std.specs.List.{All, AllByRecursion}
 use Rattle.byteorder.specs.Endian.{little_bytes}
 use Rattle.std.proofs.lemmas.Bool.{eqb-true}
 use Rattle.std.proofs.lemmas.List.Elements.{All-from_get_or}
 use Rattle.mu_model_wire.specs.declared.Refusal.{Refusal}
-use Rattle.mu_model_wire.specs.Fields.{Shown, number, octets, Message, Field, whole, Fields, end, ◌▹◌, u16_zero_or}
-use Rattle.mu_model_wire.specs.Names.{label, group, status}
+use Rattle.mu_model_wire.specs.Fields.{Shown, number, octets, Message}
+use Rattle.mu_model_wire.specs.Names.{label, status}
 use Rattle.mu_model_wire.specs.Blob.{transfer_start, transfer_status, block_status}
 use Rattle.mu_model_wire.specs.Update.{metadata_status, update_status}
-use Rattle.mu_model_wire.specs.Distribution.{receiver_fields, receivers_add, distribution_start, upload_start}
+use Rattle.mu_model_wire.specs.Distribution.{receiver_fields, distribution_start, upload_start}
 use Rattle.mu_model_wire.specs.Reading.{value_of, message_at, fields_of}
 use Rattle.mu_model_wire.specs.Spelling.{opcode_spelling, Fits, FieldsFit, RowFits, EntryFits, EntriesFit}
 use Rattle.mu_model_wire.specs.Spells.{FieldsSpell, RowSpells, Spells}
@@ -22,9 +22,9 @@ use Rattle.mu_model_image.specs.Laws.{MetaThatIsReadIsInRange}
 use Rattle.mu_model_node.specs.BlobMessages.{BlobRequest, parameters_of, blob_request_of}
 use Rattle.mu_model_node.specs.Sound.{AreInRange, BlobRequestFits}
 use Rattle.mu_model_client.specs.Answers.{Answer, answer_of}
-use Rattle.mu_model_distributor.specs.Requests.{Entry, DistRequest, DistributionStart, entry_of, target_of, settings_to, upload_of, dist_request_of}
+use Rattle.mu_model_distributor.specs.Requests.{DistRequest, DistributionStart, entry_of, target_of, settings_to, upload_of, dist_request_of}
 use Rattle.mu_model_distributor.specs.DistMessages.{taken_as, taken_in}
-use Rattle.mu_model_distributor.specs.Sound.{AreSettings, IsEntry, IsUploadStart, DistRequestFits, AnswerFits, TakenFits}
+use Rattle.mu_model_distributor.specs.Sound.{IsEntry, IsUploadStart, DistRequestFits, AnswerFits, TakenFits}
 use Rattle.mu_model_distributor.specs.Laws.{OctetsSayInRange}
 
 -- ---- octets

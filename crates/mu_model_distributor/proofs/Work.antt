@@ -1,6 +1,6 @@
 -- What each event writes.
 use Rattle.std.proofs.Common.{◌≡◌, ◌<◌, ◌≤◌, ℕ, zero, suc, ◌+◌, ◌*◌, Bool, true, false, List, [], ◌∷◌, ◌++◌, length, replicate, refl, sym, ap, subst, ◌∙◌, cond, arith, Option, Some, None, Result, Ok, Err, ◌⊎◌, inl, inr, get_or}
-use Rattle.std.specs.Prelude.{⊤, ◌==◌, MatchOption}
+use Rattle.std.specs.Prelude.{◌==◌, MatchOption}
 use Rattle.std.specs.List.{AllByRecursion}
 use Rattle.std.proofs.lemmas.List.{length-replicate, length-append}
 use Rattle.mu_model_image.specs.Meta.{is_fit}
@@ -9,9 +9,9 @@ use Rattle.mu_model_node.specs.declared.FlashWork.{FlashWork}
 use Rattle.mu_model_node.specs.declared.FlashWork.TheVariants.{Untouched, Recorded, Begun, PutBlock}
 use Rattle.mu_model_node.specs.declared.Parameters.{Parameters}
 use Rattle.mu_model_node.specs.FlashWork.{passed_by, record_work, work_by}
-use Rattle.mu_model_node.specs.Slots.{Slots, at, put, is_full, joined, held_count}
-use Rattle.mu_model_node.specs.BlobMessages.{BlobRequest, BlobReply}
-use Rattle.mu_model_node.specs.BlobServer.{Transfer, CurrentBlock, Serving, NoJob, Lacking, Whole, Server, serving_by, serving_of, BlobPhase, Inactive, WaitingForStart, NextBlock, NextChunk, Complete, Suspended, server_phase, Change, Same, Begins, Drops, Puts, changed}
+use Rattle.mu_model_node.specs.Slots.{at, put, is_full, joined, held_count}
+use Rattle.mu_model_node.specs.BlobMessages.{BlobRequest}
+use Rattle.mu_model_node.specs.BlobServer.{Transfer, CurrentBlock, Lacking, Whole, serving_by, BlobPhase, Inactive, WaitingForStart, NextBlock, NextChunk, Complete, Suspended, server_phase, Change, Same, Begins, Drops, Puts, changed}
 use Rattle.mu_model_node.specs.BlobTable.{Served, on_blob, on_server_time}
 use Rattle.mu_model_node.specs.Events.{NodeEvent, PacketComes, TimeComes}
 use Rattle.mu_model_node.specs.Sound.{AreBlocks, HasBlocks, IsCurrent, BlobRequestFits}
@@ -19,26 +19,26 @@ use Rattle.mu_model_node.specs.Laws.{RequestsKeepStatesSound}
 use Rattle.mu_model_client.specs.Answers.{Answer}
 use Rattle.mu_model_client.specs.Client.{Client}
 use Rattle.mu_model_client.specs.Told.{told}
-use Rattle.mu_model_client.specs.Due.{Due, due}
+use Rattle.mu_model_client.specs.Due.{due}
 use Rattle.mu_model_distributor.specs.Requests.{DistRequest, ReceiversAdd, ReceiversDeleteAll, ReceiversGet, CapabilitiesGet, DistributionGet, DistributionStart, DistributionSuspend, DistributionCancel, DistributionApply, UploadGet, StartUpload, StartUploadOob, UploadCancel, FirmwareGet, FirmwareGetByIndex, FirmwareDelete, FirmwareDeleteAll}
 use Rattle.mu_model_distributor.specs.Replies.{DistReply}
 use Rattle.mu_model_distributor.specs.DistMessages.{Taken, OfDistribution, OfBlob, OfReceiver, taken_at, Sent}
 use Rattle.mu_model_distributor.specs.DistState.{UploadJob, Upload, NoUpload, Uploading, Broken, Uploaded, job_of, run_upload, DistDurable, DistState, serving_job, server_of, offered}
 use Rattle.mu_model_distributor.specs.Same.{same_durable}
-use Rattle.mu_model_distributor.specs.Commit.{Outcome, is_long, recorded, recorded_if, work_to, committed, ends, answered}
+use Rattle.mu_model_distributor.specs.Commit.{is_long, recorded_if, work_to, committed, ends, answered}
 use Rattle.mu_model_distributor.specs.Receivers.{receivers_status, receivers_add, receivers_delete_all}
 use Rattle.mu_model_distributor.specs.Distribution.{with_client, distribution_status, distribution_start, distribution_suspend, distribution_cancel, distribution_apply}
 use Rattle.mu_model_distributor.specs.Uploads.{with_session, upload_status, upload_start, upload_cancel}
 use Rattle.mu_model_distributor.specs.Firmware.{no_index, firmware_status, firmware_delete, firmware_delete_all}
-use Rattle.mu_model_distributor.specs.DistTable.{on_request, upload_changed, blob_changed, blob_work, by_blob, served, hears, on_taken}
+use Rattle.mu_model_distributor.specs.DistTable.{on_request, upload_changed, blob_changed, blob_work, served, hears, on_taken}
 use Rattle.mu_model_distributor.specs.DistTime.{is_whole, verifies, server_waits, octets_of, has_turns, after_turn, client_turns, client_waits, waits, on_time}
-use Rattle.mu_model_distributor.specs.DistEvents.{DistStep, at_moment, on_packet, on_event, dist_step}
-use Rattle.mu_model_distributor.specs.Sound.{IsUploadJob, HasUploadJob, HasCurrent, IsDistDurable, IsDistState, TakenFits}
+use Rattle.mu_model_distributor.specs.DistEvents.{at_moment, on_packet, on_event, dist_step}
+use Rattle.mu_model_distributor.specs.Sound.{HasCurrent, IsDistState, TakenFits}
 use Rattle.mu_model_distributor.specs.Laws.{EventFits, blocks_held, PassesFrom, StatesPassRising, WorkLeavesOldOrNew, WorkLeadsToTheNew, pages_put, WorkIsBounded, IsLongBy, RecordsAreLongByReceivers, RecordsSaySomething}
 use Rattle.mu_model_distributor.proofs.Same.{same_durable_true, same_durable_refl}
 use Rattle.mu_model_distributor.proofs.Served.{ServedSoundly}
-use Rattle.mu_model_distributor.proofs.Blobs.{JobFacts, job_facts}
-use Rattle.mu_model_distributor.proofs.Puts.{PutsIn, puts_in, IsComingIn, comes_in, count_put, at_put, few_pages}
+use Rattle.mu_model_distributor.proofs.Blobs.{job_facts}
+use Rattle.mu_model_distributor.proofs.Puts.{PutsIn, puts_in, comes_in, count_put, at_put, few_pages}
 use Rattle.mu_model_distributor.proofs.Counts.{SameCount, then_counts, Counts, add_counts, delete_counts, start_counts, suspend_counts, cancel_counts, apply_counts, upload_counts, firmware_counts, all_counts, verified_counts, broken_counts, turn_counts}
 
 -- what the work of an event says of the durable state after it

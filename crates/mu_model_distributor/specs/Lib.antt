@@ -15,6 +15,7 @@ pub mod Runs
 pub mod Sound
 pub mod Laws
 pub mod Planned
+pub mod RowMoves
 pub mod Scenes
 pub mod Worked
 pub mod WorkedUploads

@@ -1,6 +1,6 @@
 -- What a distributor's client sends is what the distribution offers: its Update Starts have the distribution's BLOB ID, whose number is
 -- the counter in each record that a cut may leave, the offered image's metadata, and each receiver's index.
-use Rattle.std.specs.Prelude.{ℕ, ◌≡◌, ◌⊎◌, ◌≤◌, List, [], ◌∷◌, Option, Some, None, MatchOption}
+use Rattle.std.specs.Prelude.{ℕ, ◌≡◌, ◌⊎◌, ◌≤◌, List, [], ◌∷◌, MatchOption}
 use Rattle.std.specs.List.{AllByRecursion}
 use Rattle.mu_model_image.specs.Meta.{meta_octets}
 use Rattle.mu_model_node.specs.UpdateMessages.{UpdateStart, StartUpdate}
@@ -15,7 +15,7 @@ use Rattle.mu_model_distributor.specs.DistMessages.{Sent, ByClient}
 use Rattle.mu_model_distributor.specs.DistState.{Receiver, DistDurable, DistState, transfer_id, offered}
 use Rattle.mu_model_distributor.specs.Distribution.{meta_of, plan_of}
 use Rattle.mu_model_distributor.specs.DistEvents.{dist_step, dist_passed, restarted}
-use Rattle.mu_model_distributor.specs.Sound.{IsDistDurable, IsDistState}
+use Rattle.mu_model_distributor.specs.Sound.{IsDistState}
 use Rattle.mu_model_distributor.specs.Laws.{EventFits}
 
 -- ---- a client that does what the distribution asks

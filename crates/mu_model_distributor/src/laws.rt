@@ -6,6 +6,8 @@ ghost use Rattle.mu_model_distributor.specs.WorkedPhases.{PhaseByPhase};
 ghost use Rattle.mu_model_distributor.specs.WorkedRun.{ADistribution};
 ghost use Rattle.mu_model_distributor.specs.WorkedSettle.{NothingIsLost};
 ghost use Rattle.mu_model_distributor.specs.Laws.{EventsKeepStatesSound, BootsAreSound, PassedStatesAreSound, NewIsSound, OctetsSayInRange, StatesPassRising, WorkLeavesOldOrNew, WorkLeadsToTheNew, WorkIsBounded, RecordsAreLongByReceivers, RecordsSaySomething};
+ghost use Rattle.mu_model_distributor.specs.Planned.{EventsKeepPlanned, BootsArePlanned, StartsAreOffered, CountersRise};
+ghost use Rattle.mu_model_distributor.specs.RowMoves.{RowsMoveByCause};
 
 use mu_model_wire::laws::{grammar_holds, reads_what_is_spelled};
 
@@ -39,6 +41,19 @@ pub fn flash_work()
 {
     mu_model_node::laws::states_are_sound();
 }
+
+/// A distributor's client does what the distribution asks, and its Update Starts are what each record that a cut may leave offers.
+pub fn starts_are_offered()
+    ensures events { EventsKeepPlanned }
+    ensures boots { BootsArePlanned }
+    ensures offered { StartsAreOffered }
+    ensures counters { CountersRise }
+{}
+
+/// Each change of a row has its cause.
+pub fn rows_move_by_cause()
+    ensures { RowsMoveByCause }
+{}
 
 /// Worked rows: what a distributor answers and is left with.
 pub fn worked_rows()
