@@ -1,5 +1,0 @@
-use Rattle.mu_model_distributor.proofs.RowMoves.{rows_move}
-use Rattle.mu_model_distributor.proofs.laws.rows_move_by_cause.Goals as goal
-
-pub returns : goal.returns
-returns c = rows_move

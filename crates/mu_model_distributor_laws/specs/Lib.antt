@@ -1,0 +1,9 @@
+pub mod Laws
+pub mod Planned
+pub mod RowMoves
+pub mod Scenes
+pub mod Worked
+pub mod WorkedUploads
+pub mod WorkedPhases
+pub mod WorkedRun
+pub mod WorkedSettle
