@@ -7,3 +7,4 @@ pub mod WorkedUploads
 pub mod WorkedPhases
 pub mod WorkedRun
 pub mod WorkedSettle
+pub mod WorkedEnds

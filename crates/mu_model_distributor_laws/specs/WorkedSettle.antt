@@ -8,7 +8,7 @@ use Rattle.mu_model_node.specs.Events.{NodeEvent, PacketComes, TimeComes, node_s
 use Rattle.mu_model_node.specs.Worked.{image_a, image_abc}
 use Rattle.mu_model_distributor.specs.DistState.{Receiver, DistState, dist_number}
 use Rattle.mu_model_distributor.specs.DistEvents.{dist_step}
-use Rattle.mu_model_distributor_laws.specs.Scenes.{stocked_one, said, after, receivers_add, distribution_start_of}
+use Rattle.mu_model_distributor_laws.specs.Scenes.{stocked_one, heard, said, after, receivers_add, receivers_get, distribution_start_of, distribution_apply}
 
 pub record Two : Type 0 where
   pub distributor : DistState
@@ -57,8 +57,28 @@ abbrev pub phases_seen : List ℕ → Two → List ℕ
 phases_seen [] w = []
 phases_seen (n ∷ more) w = dist_number (turns n w).distributor.durable.phase ∷ phases_seen more (turns n w)
 
+-- the distributor hears this from a stranger
+abbrev pub asked : List ℕ → Two → Two
+asked payload w = record w { distributor = (dist_step 1 w.distributor (heard payload) w.moment).next }
+
+-- the address, the update phase and the progress of each row, as a Receivers List tells them
+abbrev pub listed : Two → List (List ℕ)
+listed w = map (λ (p : Packet). p.payload) (dist_step 1 w.distributor (heard receivers_get) w.moment).sent
+
 pub record NothingIsLost : Type 0 where
   -- push to the group, Verify And Apply
   pub applied : rows_seen (turns 14 (begun 5 0xc0)) ≡ (2 ∷ 8 ∷ 0 ∷ 0 ∷ []) ∷ []
   pub progress : (turns 14 (begun 5 0xc0)).distributor.progress ≡ 100 ∷ []
   pub image : (turns 14 (begun 5 0xc0)).node.durable.images ≡ image_abc ∷ []
+  pub list_says : listed (turns 14 (begun 5 0xc0)) ≡ (0x83 ∷ 0x15 ∷ 1 ∷ 0 ∷ 0 ∷ 0 ∷ 2 ∷ 0 ∷ 4 ∷ 0xc8 ∷ 0 ∷ []) ∷ []
+  -- the phases after 8 turns, and one by one from there
+  pub phases : phases_seen (8 ∷ 1 ∷ 1 ∷ 1 ∷ 1 ∷ []) (begun 5 0xc0) ≡ 1 ∷ 3 ∷ 3 ∷ 4 ∷ 4 ∷ []
+  -- to each receiver by itself
+  pub without_group : rows_seen (turns 14 (begun 5 0)) ≡ (2 ∷ 8 ∷ 0 ∷ 0 ∷ []) ∷ []
+  -- pull
+  pub pull : rows_seen (turns 14 (begun 6 0xc0)) ≡ (2 ∷ 8 ∷ 0 ∷ 0 ∷ []) ∷ []
+  -- Verify Only: nothing is applied until that is asked for
+  pub verified : phases_seen (14 ∷ []) (begun 1 0xc0) ≡ 2 ∷ []
+  pub verified_row : rows_seen (turns 14 (begun 1 0xc0)) ≡ (2 ∷ 4 ∷ 0 ∷ 0 ∷ []) ∷ []
+  pub then_applied : rows_seen (turns 4 (asked distribution_apply (turns 14 (begun 1 0xc0)))) ≡ (2 ∷ 8 ∷ 0 ∷ 0 ∷ []) ∷ []
+  pub then_completed : phases_seen (4 ∷ []) (asked distribution_apply (turns 14 (begun 1 0xc0))) ≡ 4 ∷ []

@@ -5,6 +5,7 @@ ghost use Rattle.mu_model_distributor_laws.specs.WorkedUploads.{AWholeUpload, Br
 ghost use Rattle.mu_model_distributor_laws.specs.WorkedPhases.{PhaseByPhase};
 ghost use Rattle.mu_model_distributor_laws.specs.WorkedRun.{ADistribution};
 ghost use Rattle.mu_model_distributor_laws.specs.WorkedSettle.{NothingIsLost};
+ghost use Rattle.mu_model_distributor_laws.specs.WorkedEnds.{VerificationEnds, ManyReceivers};
 ghost use Rattle.mu_model_distributor_laws.specs.Laws.{EventsKeepStatesSound, BootsAreSound, PassedStatesAreSound, NewIsSound, OctetsSayInRange, StatesPassRising, WorkLeavesOldOrNew, WorkLeadsToTheNew, WorkIsBounded, RecordsAreLongByReceivers, RecordsSaySomething};
 ghost use Rattle.mu_model_distributor_laws.specs.Planned.{EventsKeepPlanned, BootsArePlanned, StartsAreOffered, CountersRise};
 ghost use Rattle.mu_model_distributor_laws.specs.RowMoves.{RowsMoveByCause};
@@ -64,4 +65,6 @@ pub fn worked_rows()
     ensures phase_by_phase { PhaseByPhase }
     ensures distribution { ADistribution }
     ensures nothing_is_lost { NothingIsLost }
+    ensures verification_ends { VerificationEnds }
+    ensures many_receivers { ManyReceivers }
 {}
