@@ -21,3 +21,5 @@ pub mod Planned
 pub mod Offered
 pub mod RowMoves
 pub mod Counters
+pub mod RunLaws
+pub mod Records

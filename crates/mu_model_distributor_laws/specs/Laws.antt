@@ -1,17 +1,20 @@
 -- What holds of a distributor's step.
-use Rattle.std.specs.Prelude.{ℕ, ◌≡◌, ◌≤◌, ◌+◌, ◌⊎◌, ◌↔◌, List, [], ◌∷◌, length, Option, Some, None, MatchOption}
-use Rattle.std.specs.List.{AllByRecursion}
+use Rattle.std.specs.Prelude.{ℕ, ◌≡◌, ◌≤◌, ◌+◌, ◌⊎◌, ◌↔◌, ◌==◌, not, List, [], ◌∷◌, ◌++◌, length, drop, Option, Some, None, MatchOption}
+use Rattle.std.specs.List.{AllByRecursion, list_any}
+use Rattle.byteorder.specs.Endian.{little_bytes}
 use Rattle.mu_model_wire.specs.Laws.{AreOctets}
+use Rattle.mu_model_image.specs.Meta.{Image, IsMeta}
 use Rattle.mu_model_node.specs.declared.FlashWork.{FlashWork}
 use Rattle.mu_model_node.specs.declared.FlashWork.TheVariants.{Untouched, Recorded, Begun, PutBlock}
 use Rattle.mu_model_node.specs.Slots.{held_count}
 use Rattle.mu_model_node.specs.Events.{NodeEvent, PacketComes, TimeComes}
+use Rattle.mu_model_node.specs.Sound.{IsActiveImage}
 use Rattle.mu_model_distributor.specs.DistMessages.{taken_at}
-use Rattle.mu_model_distributor.specs.DistState.{UploadJob, job_of, DistDurable, DistState}
-use Rattle.mu_model_distributor.specs.Commit.{is_long, ends}
-use Rattle.mu_model_distributor.specs.DistEvents.{dist_step, dist_passed, dist_work, restarted, new_distributor}
+use Rattle.mu_model_distributor.specs.DistState.{Receiver, UploadJob, job_of, DistDurable, DistState}
+use Rattle.mu_model_distributor.specs.Commit.{is_past, is_long, ends}
+use Rattle.mu_model_distributor.specs.DistEvents.{dist_step, dist_passed, dist_work, restarted, new_distributor, stocked}
 use Rattle.mu_model_distributor.specs.Runs.{left_after}
-use Rattle.mu_model_distributor.specs.Sound.{IsDistDurable, IsDistState, TakenFits}
+use Rattle.mu_model_distributor.specs.Sound.{AreReceivers, IsDistDurable, IsDistState, TakenFits}
 
 -- ---- sound states
 
@@ -107,3 +110,27 @@ RecordsAreLongByReceivers =
 -- at an event's end there is no record exactly where what is kept stays
 abbrev pub RecordsSaySomething : Type 0
 RecordsSaySomething = (s t : DistState) → ((ends s t (λ u. [])).work ≡ Untouched) ↔ (t.durable ≡ s.durable)
+
+-- ---- an image that is stocked
+
+-- it goes to a bank without an image, where there is one, and the state stays sound
+abbrev pub StockedIsSound : Type 0
+StockedIsSound =
+    (s : DistState) (image : Image) → IsDistState s → job_of s.durable.upload ≡ None → IsMeta image.meta → IsActiveImage s.durable.capacity image
+    → IsDistState (stocked s image)
+
+-- ---- long records
+
+-- a receiver in a record (this profile)
+abbrev pub receiver_octets : Receiver → List ℕ
+receiver_octets r = little_bytes 2 r.address ++ (r.index ∷ r.phase ∷ r.update_status ∷ r.transfer_status ∷ [])
+
+abbrev pub receivers_octets : List Receiver → List ℕ
+receivers_octets [] = []
+receivers_octets (r ∷ receivers) = receiver_octets r ++ receivers_octets receivers
+
+-- the receivers of a record stand from its octet 448 on, and a record is short where its octets from 512 on are all 0
+abbrev pub LongIsPastTheEnd : Type 0
+LongIsPastTheEnd =
+    (receivers : List Receiver) → AreReceivers receivers
+    → is_past (drop 10 receivers) ≡ list_any (λ octet. not (octet == 0)) (drop 64 (receivers_octets receivers))

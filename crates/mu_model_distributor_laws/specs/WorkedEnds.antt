@@ -1,11 +1,11 @@
 -- Worked rows: how a verification ends, and records that are long.
-use Rattle.std.specs.Prelude.{ℕ, ◌+◌, ◌≡◌, ◌++◌, List, [], ◌∷◌, length, map, replicate}
+use Rattle.std.specs.Prelude.{ℕ, ◌≡◌, ◌++◌, List, [], ◌∷◌, length, map, replicate}
 use Rattle.std.specs.List.{flat_map, range_with_len}
-use Rattle.mu_model_node.specs.Safe.{Happening, CutPower}
+use Rattle.mu_model_node.specs.Safe.{Happening}
 use Rattle.mu_model_distributor.specs.DistState.{DistState}
 use Rattle.mu_model_distributor.specs.Receivers.{new_receiver, with_receivers}
 use Rattle.mu_model_distributor.specs.DistEvents.{dist_work}
-use Rattle.mu_model_distributor_laws.specs.Scenes.{stocked_one, heard, said, told, time_passes, after, answers, sends_at, seen, receivers_add, receivers_delete_all, distribution_start_of, distribution_apply, receivers_status, id_at}
+use Rattle.mu_model_distributor_laws.specs.Scenes.{stocked_one, heard, said, told, time_passes, after, answers, sends_at, seen, receivers_add, receivers_delete_all, distribution_start_of, distribution_apply, receivers_status}
 use Rattle.mu_model_distributor_laws.specs.WorkedRun.{metadata_status, update_status, information_status, rows_seen}
 
 -- a distribution with an octet of mode and policy, whose receiver says at the Update Start that it has verified the image already, so

@@ -6,9 +6,10 @@ ghost use Rattle.mu_model_distributor_laws.specs.WorkedPhases.{PhaseByPhase};
 ghost use Rattle.mu_model_distributor_laws.specs.WorkedRun.{ADistribution};
 ghost use Rattle.mu_model_distributor_laws.specs.WorkedSettle.{NothingIsLost};
 ghost use Rattle.mu_model_distributor_laws.specs.WorkedEnds.{VerificationEnds, ManyReceivers};
-ghost use Rattle.mu_model_distributor_laws.specs.Laws.{EventsKeepStatesSound, BootsAreSound, PassedStatesAreSound, NewIsSound, OctetsSayInRange, StatesPassRising, WorkLeavesOldOrNew, WorkLeadsToTheNew, WorkIsBounded, RecordsAreLongByReceivers, RecordsSaySomething};
+ghost use Rattle.mu_model_distributor_laws.specs.Laws.{EventsKeepStatesSound, BootsAreSound, PassedStatesAreSound, NewIsSound, StockedIsSound, OctetsSayInRange, StatesPassRising, WorkLeavesOldOrNew, WorkLeadsToTheNew, WorkIsBounded, RecordsAreLongByReceivers, RecordsSaySomething, LongIsPastTheEnd};
 ghost use Rattle.mu_model_distributor_laws.specs.Planned.{EventsKeepPlanned, BootsArePlanned, StartsAreOffered, CountersRise};
 ghost use Rattle.mu_model_distributor_laws.specs.RowMoves.{RowsMoveByCause};
+ghost use Rattle.mu_model_distributor_laws.specs.RunLaws.{RunsAreInOrder, NoNumberIsLost};
 
 use mu_model_wire::laws::{grammar_holds, reads_what_is_spelled};
 
@@ -18,6 +19,7 @@ pub fn states_are_sound()
     ensures boots { BootsAreSound }
     ensures passed { PassedStatesAreSound }
     ensures new { NewIsSound }
+    ensures stocked { StockedIsSound }
 {
     mu_model_node::laws::states_are_sound();
 }
@@ -39,6 +41,7 @@ pub fn flash_work()
     ensures bounded { WorkIsBounded }
     ensures long { RecordsAreLongByReceivers }
     ensures says { RecordsSaySomething }
+    ensures past { LongIsPastTheEnd }
 {
     mu_model_node::laws::states_are_sound();
 }
@@ -55,6 +58,14 @@ pub fn starts_are_offered()
 pub fn rows_move_by_cause()
     ensures { RowsMoveByCause }
 {}
+
+/// Whatever comes and whenever the power goes, a distributor is in order, and no number of a distribution is used again.
+pub fn runs_are_in_order()
+    ensures order { RunsAreInOrder }
+    ensures numbers { NoNumberIsLost }
+{
+    mu_model_node::laws::states_are_sound();
+}
 
 /// Worked rows: what a distributor answers and is left with.
 pub fn worked_rows()

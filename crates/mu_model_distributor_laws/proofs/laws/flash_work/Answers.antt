@@ -1,3 +1,4 @@
+use Rattle.mu_model_distributor_laws.proofs.Records.{long_is_past}
 use Rattle.mu_model_distributor_laws.proofs.Work.{states_pass, work_leaves, work_leads_there, work_is_bounded, long_by_receivers, records_say}
 use Rattle.mu_model_distributor_laws.proofs.laws.flash_work.Goals as goal
 
@@ -18,3 +19,6 @@ returns-clause-long c = long_by_receivers c.states_are_sound.ensures.requests
 
 pub returns-clause-says : goal.returns-clause-says
 returns-clause-says c = records_say
+
+pub returns-clause-past : goal.returns-clause-past
+returns-clause-past c = long_is_past

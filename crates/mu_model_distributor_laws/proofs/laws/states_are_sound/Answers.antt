@@ -1,3 +1,4 @@
+use Rattle.mu_model_distributor_laws.proofs.Records.{stocked_is_sound}
 use Rattle.mu_model_distributor_laws.proofs.Steps.{events_keep, boots_are_sound, passed_are_sound, new_is_sound}
 use Rattle.mu_model_distributor_laws.proofs.laws.states_are_sound.Goals as goal
 
@@ -12,3 +13,6 @@ returns-clause-passed c = passed_are_sound c.states_are_sound.ensures.requests
 
 pub returns-clause-new : goal.returns-clause-new
 returns-clause-new c = new_is_sound
+
+pub returns-clause-stocked : goal.returns-clause-stocked
+returns-clause-stocked c = stocked_is_sound
