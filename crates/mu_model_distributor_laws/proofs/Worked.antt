@@ -19,7 +19,7 @@ whole_upload_is = record { told_started = refl; seen_started = refl; again = ref
 
 pub broken_uploads_is : BrokenUploads
 unfolding word_at octets_at opcode_at pattern_at
-broken_uploads_is = record { told_broken = refl; seen_broken = refl; resumed = refl; seen_resumed = refl; replaced = refl; seen_cut = refl; seen_cut_later = refl; seen_cut_said = refl; seen_cut_resumed = refl; cut_resumed_blob = refl; seen_blob_canceled = refl; seen_blob_canceled_later = refl; canceled = refl; seen_canceled = refl; seen_canceled_again = refl }
+broken_uploads_is = record { told_broken = refl; seen_broken = refl; resumed = refl; seen_resumed = refl; replaced = refl; seen_cut = refl; seen_cut_later = refl; seen_cut_said = refl; seen_cut_resumed = refl; cut_resumed_blob = refl; seen_cut_blob_canceled = refl; seen_blob_canceled = refl; seen_blob_canceled_later = refl; canceled = refl; seen_canceled = refl; seen_canceled_again = refl }
 
 pub refused_uploads_is : RefusedUploads
 unfolding word_at octets_at opcode_at pattern_at sha256 digest_bytes hash_after compress rounds schedule first_words
@@ -31,7 +31,7 @@ phase_by_phase_is = record { receivers_add_is = refl; receivers_delete_all_is = 
 
 pub distribution_is : ADistribution
 unfolding word_at octets_at opcode_at pattern_at
-distribution_is = record { told_started = refl; check = refl; start = refl; seen_cut = refl; check_again = refl; start_again = refl; next_start = refl; start_work = refl; torn_before = refl; torn_after = refl; torn_sends = refl; no_image = refl; no_image_failed = refl; suspended = refl; resumed = refl; resumed_check = refl; resumed_number = refl; canceled_sends = refl; canceled_row = refl; canceled_over = refl; worn = refl }
+distribution_is = record { told_started = refl; check = refl; start = refl; transfer = refl; block = refl; seen_cut = refl; check_again = refl; start_again = refl; next_start = refl; start_work = refl; torn_before = refl; torn_after = refl; torn_sends = refl; no_image = refl; no_image_failed = refl; suspended = refl; resumed = refl; resumed_check = refl; resumed_number = refl; canceled_sends = refl; canceled_row = refl; canceled_over = refl; worn = refl }
 
 pub nothing_is_lost_is : NothingIsLost
 unfolding word_at octets_at opcode_at pattern_at sha256 digest_bytes hash_after compress rounds schedule first_words
@@ -43,4 +43,4 @@ verification_ends_is = record { asks = refl; row_stands = refl; verify_only = re
 
 pub many_receivers_is : ManyReceivers
 unfolding word_at octets_at opcode_at pattern_at
-many_receivers_is = record { ten = refl; eleven = refl; twelve = refl; seen_twelve = refl; one_by_one = refl; short_again = refl; most = refl; too_many = refl; twice = refl }
+many_receivers_is = record { ten = refl; eleven = refl; twelve = refl; seen_twelve = refl; one_by_one = refl; short_again = refl; most = refl; too_many = refl; listed = refl; listed_rest = refl; listed_one = refl; listed_past = refl; twice = refl }

@@ -70,4 +70,9 @@ pub record ManyReceivers : Type 0 where
   -- 128 at most, each once
   pub most : answers (has_many 126) [] (many 127 4) ≡ receivers_status 0 128 ∷ []
   pub too_many : answers (has_many 126) [] (many 127 5) ≡ receivers_status 1 126 ∷ []
+  -- a Receivers List has 74 rows at most, from the first that is asked for
+  pub listed : map length (answers (has_many 100) [] (0x83 ∷ 0x14 ∷ 0 ∷ 0 ∷ 0xff ∷ 0xff ∷ [])) ≡ 376 ∷ []
+  pub listed_rest : map length (answers (has_many 100) [] (0x83 ∷ 0x14 ∷ 98 ∷ 0 ∷ 0xff ∷ 0xff ∷ [])) ≡ 16 ∷ []
+  pub listed_one : answers (has_many 100) [] (0x83 ∷ 0x14 ∷ 98 ∷ 0 ∷ 1 ∷ 0 ∷ []) ≡ (0x83 ∷ 0x15 ∷ 100 ∷ 0 ∷ 98 ∷ 0 ∷ 101 ∷ 0 ∷ 5 ∷ 0 ∷ 0 ∷ []) ∷ []
+  pub listed_past : answers (has_many 100) [] (0x83 ∷ 0x14 ∷ 100 ∷ 0 ∷ 1 ∷ 0 ∷ []) ≡ (0x83 ∷ 0x15 ∷ 100 ∷ 0 ∷ 100 ∷ 0 ∷ []) ∷ []
   pub twice : answers stocked_one [] ((0x83 ∷ 0x11 ∷ []) ++ (2 ∷ 0 ∷ 0 ∷ 2 ∷ 0 ∷ 1 ∷ [])) ≡ receivers_status 0 1 ∷ []

@@ -31,6 +31,19 @@ information_status version = (0x83 ∷ 0x09 ∷ 1 ∷ 0 ∷ 0x26 ∷ []) ++ (id_
 abbrev pub checked : List Happening
 checked = started 0 ++ time_passes 0 ∷ told (metadata_status 0 0) ∷ []
 
+-- the receiver takes the update, and says what it can take
+abbrev pub up_to_information : List Happening
+up_to_information =
+    checked ++ time_passes 100 ∷ told (update_status 2 1) ∷ time_passes 200
+    ∷ told (0x83 ∷ 0x07 ∷ 0x0c ∷ 0x0e ∷ 0 ∷ 8 ∷ 0x78 ∷ 1 ∷ 0 ∷ 0x10 ∷ 0 ∷ 0 ∷ 0x7c ∷ 1 ∷ 3 ∷ []) ∷ []
+
+abbrev pub transfer_start : List ℕ
+transfer_start = 0x83 ∷ 0x01 ∷ 0x40 ∷ 1 ∷ 0 ∷ 0 ∷ 0 ∷ 0 ∷ 0 ∷ 1 ∷ 0 ∷ 3 ∷ 0 ∷ 0 ∷ 0 ∷ 0x0c ∷ 0x7c ∷ 1 ∷ []
+
+-- its one block is missing
+abbrev pub transfer_status : List ℕ
+transfer_status = 0x83 ∷ 0x03 ∷ 0x40 ∷ 2 ∷ 1 ∷ 0 ∷ 0 ∷ 0 ∷ 0 ∷ 0 ∷ 1 ∷ 0 ∷ 3 ∷ 0 ∷ 0 ∷ 0 ∷ 0x0c ∷ 0x7c ∷ 1 ∷ 1 ∷ []
+
 -- address, index, phase and statuses of each row
 abbrev pub rows_seen : DistState → List (List ℕ)
 rows_seen s = map (λ (r : Receiver). r.address ∷ r.index ∷ r.phase ∷ r.update_status ∷ r.transfer_status ∷ []) s.durable.receivers
@@ -39,6 +52,9 @@ pub record ADistribution : Type 0 where
   pub told_started : answers stocked_one (said (receivers_add 0) ∷ []) (distribution_start 0) ≡ distribution_status 0 1 ∷ []
   pub check : sends_at 0 stocked_one (started 0) ≡ metadata_check 0 ∷ []
   pub start : sends_at 100 stocked_one checked ≡ update_start 1 ∷ []
+  -- blocks of 4,096 octets, chunks of 200, and messages of 380
+  pub transfer : sends_at 300 stocked_one up_to_information ≡ transfer_start ∷ []
+  pub block : sends_at 400 stocked_one (up_to_information ++ time_passes 300 ∷ told transfer_status ∷ []) ≡ (0x83 ∷ 0x04 ∷ 0 ∷ 0 ∷ 0xc8 ∷ 0 ∷ []) ∷ []
   -- the power goes: the counter stands, and the same is sent again
   pub seen_cut : seen (after stocked_one (checked ++ time_passes 100 ∷ CutPower ∷ [])) ≡ 4 ∷ 1 ∷ 0 ∷ 0 ∷ 1 ∷ 1 ∷ 0 ∷ []
   pub check_again : sends_at 200 stocked_one (checked ++ time_passes 100 ∷ CutPower ∷ []) ≡ metadata_check 0 ∷ []

@@ -29,6 +29,10 @@ broken = started ++ said transfer_start ∷ time_passes 10000 ∷ []
 abbrev pub cut : List Happening
 cut = started ++ said transfer_start ∷ CutPower ∷ []
 
+-- BLOB Transfer Cancel
+abbrev pub blob_cancel : List ℕ
+blob_cancel = 0x83 ∷ 0x02 ∷ 7 ∷ 0 ∷ 0 ∷ 0 ∷ 0 ∷ 0 ∷ 1 ∷ 0 ∷ []
+
 -- what is seen: count, distribution phase, upload phase of the run and of the record, counter, images, and `fresh`
 pub record AWholeUpload : Type 0 where
   pub told_started : answers empty_one [] (upload_start 5 3) ≡ upload_status 0 1 0 ∷ []
@@ -67,9 +71,11 @@ pub record BrokenUploads : Type 0 where
   -- resumed before that, it needs none
   pub seen_cut_resumed : seen (after empty_one (cut ++ said (upload_start 5 3) ∷ [])) ≡ 3 ∷ 0 ∷ 1 ∷ 1 ∷ 0 ∷ 0 ∷ 0 ∷ []
   pub cut_resumed_blob : blob_number (server_phase (server_of (after empty_one (cut ++ said (upload_start 5 3) ∷ [])))) ≡ 5
+  -- a record that a BLOB message writes keeps the phase of the last one
+  pub seen_cut_blob_canceled : seen (after empty_one (cut ++ said blob_cancel ∷ [])) ≡ 4 ∷ 0 ∷ 2 ∷ 1 ∷ 0 ∷ 0 ∷ 3 ∷ []
   -- the uploader cancels the transfer: the upload is broken off in the next time event
-  pub seen_blob_canceled : seen (after empty_one (started ++ said (0x83 ∷ 0x02 ∷ 7 ∷ 0 ∷ 0 ∷ 0 ∷ 0 ∷ 0 ∷ 1 ∷ 0 ∷ []) ∷ [])) ≡ 2 ∷ 0 ∷ 1 ∷ 1 ∷ 0 ∷ 0 ∷ 3 ∷ []
-  pub seen_blob_canceled_later : seen (after empty_one (started ++ said (0x83 ∷ 0x02 ∷ 7 ∷ 0 ∷ 0 ∷ 0 ∷ 0 ∷ 0 ∷ 1 ∷ 0 ∷ []) ∷ time_passes 1 ∷ [])) ≡ 3 ∷ 0 ∷ 2 ∷ 2 ∷ 0 ∷ 0 ∷ 2 ∷ []
+  pub seen_blob_canceled : seen (after empty_one (started ++ said blob_cancel ∷ [])) ≡ 2 ∷ 0 ∷ 1 ∷ 1 ∷ 0 ∷ 0 ∷ 3 ∷ []
+  pub seen_blob_canceled_later : seen (after empty_one (started ++ said blob_cancel ∷ time_passes 1 ∷ [])) ≡ 3 ∷ 0 ∷ 2 ∷ 2 ∷ 0 ∷ 0 ∷ 2 ∷ []
   -- the upload is canceled; without one there is no record
   pub canceled : answers empty_one started upload_cancel ≡ no_upload 0 ∷ []
   pub seen_canceled : seen (after empty_one (started ++ said upload_cancel ∷ [])) ≡ 3 ∷ 0 ∷ 0 ∷ 0 ∷ 0 ∷ 0 ∷ 2 ∷ []
