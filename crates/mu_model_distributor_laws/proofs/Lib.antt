@@ -23,3 +23,5 @@ pub mod RowMoves
 pub mod Counters
 pub mod RunLaws
 pub mod Records
+pub mod RowsTold
+pub mod Stands

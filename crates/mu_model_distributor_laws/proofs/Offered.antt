@@ -142,13 +142,13 @@ sent_offered address d TransferSuspended packets h = h
 -- ---- what stands while a distribution goes on
 
 -- what is offered
-abbrev SameOffer : DistDurable → DistDurable → Type 0
+abbrev pub SameOffer : DistDurable → DistDurable → Type 0
 SameOffer d e = (e.counter ≡ d.counter) × (e.settings ≡ d.settings) × (e.images ≡ d.images)
 
 same_offer : (d : DistDurable) → SameOffer d d
 same_offer d = (refl, refl, refl)
 
-then_offer : (d e f : DistDurable) → SameOffer d e → SameOffer e f → SameOffer d f
+pub then_offer : (d e f : DistDurable) → SameOffer d e → SameOffer e f → SameOffer d f
 then_offer d e f h k = (k.0 ∙ h.0, k.1 ∙ h.1, k.2 ∙ h.2)
 
 same_plan : (address : ℕ) (d e : DistDurable) → SameOffer d e → plan_of address e ≡ plan_of address d

@@ -35,16 +35,16 @@ two P old new [] h k l = tt
 two P old new (d ∷ ds) h k l = (⊎_elim (λ e. subst P (sym e) k) (λ e. subst P (sym e) l) h.0, two P old new ds h.1 k l)
 
 -- it is as before the event or as after it
-left_is : (P : DistDurable → Type 0) (address : ℕ) (s : DistState) (event : NodeEvent) (now operations : ℕ) → P s.durable → P (dist_step address s event now).next.durable → P (left_after address s event now operations)
+pub left_is : (P : DistDurable → Type 0) (address : ℕ) (s : DistState) (event : NodeEvent) (now operations : ℕ) → P s.durable → P (dist_step address s event now).next.durable → P (left_after address s event now operations)
 left_is P address s event now operations h k =
     one_of P (s.durable ∷ dist_work address s event now) operations s.durable (h, two P s.durable (dist_step address s event now).next.durable (dist_work address s event now) (work_leaves address s event now) h k) h
 
 -- ---- in order
 
-booted : (address : ℕ) (d : DistDurable) → IsDistDurable d → IsInOrder address (restarted address d)
+pub booted : (address : ℕ) (d : DistDurable) → IsDistDurable d → IsInOrder address (restarted address d)
 booted address d h = record { sound = boots_are_sound address d h; planned = boots_plan address d }
 
-happens : RequestsKeepStatesSound → (address : ℕ) (s : DistState) (h : Happening) → HappeningFits h → IsInOrder address s → IsInOrder address (happened address s h)
+pub happens : RequestsKeepStatesSound → (address : ℕ) (s : DistState) (h : Happening) → HappeningFits h → IsInOrder address s → IsInOrder address (happened address s h)
 happens law address s (Done event now) fits k = record { sound = events_keep law address s event now fits k.sound; planned = events_plan address s event now fits k.sound k.planned }
 happens law address s CutPower fits k = booted address s.durable k.sound.durable
 happens law address s (Torn event now operations) fits k = booted address _ (left_is IsDistDurable address s event now operations k.sound.durable (events_keep law address s event now fits k.sound).durable)

@@ -2,6 +2,7 @@ pub mod Laws
 pub mod Planned
 pub mod RowMoves
 pub mod RunLaws
+pub mod RowsTold
 pub mod Scenes
 pub mod Worked
 pub mod WorkedUploads

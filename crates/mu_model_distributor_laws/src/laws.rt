@@ -9,6 +9,7 @@ ghost use Rattle.mu_model_distributor_laws.specs.WorkedEnds.{VerificationEnds, M
 ghost use Rattle.mu_model_distributor_laws.specs.Laws.{EventsKeepStatesSound, BootsAreSound, PassedStatesAreSound, NewIsSound, StockedIsSound, OctetsSayInRange, StatesPassRising, WorkLeavesOldOrNew, WorkLeadsToTheNew, WorkIsBounded, RecordsAreLongByReceivers, RecordsSaySomething, LongIsPastTheEnd};
 ghost use Rattle.mu_model_distributor_laws.specs.Planned.{EventsKeepPlanned, BootsArePlanned, StartsAreOffered, CountersRise};
 ghost use Rattle.mu_model_distributor_laws.specs.RowMoves.{RowsMoveByCause};
+ghost use Rattle.mu_model_distributor_laws.specs.RowsTold.{OffersStand, RowsAreTold};
 ghost use Rattle.mu_model_distributor_laws.specs.RunLaws.{RunsAreInOrder, NoNumberIsLost};
 
 use mu_model_wire::laws::{grammar_holds, reads_what_is_spelled};
@@ -63,6 +64,14 @@ pub fn rows_move_by_cause()
 pub fn runs_are_in_order()
     ensures order { RunsAreInOrder }
     ensures numbers { NoNumberIsLost }
+{
+    mu_model_node::laws::states_are_sound();
+}
+
+/// The rows of a distributor say what its receivers told it of the present distribution.
+pub fn rows_are_told()
+    ensures stand { OffersStand }
+    ensures told { RowsAreTold }
 {
     mu_model_node::laws::states_are_sound();
 }
