@@ -8,7 +8,7 @@ use Rattle.mu_model_node.specs.declared.FlashWork.{FlashWork}
 use Rattle.mu_model_node.specs.declared.FlashWork.TheVariants.{Untouched}
 use Rattle.mu_model_node.specs.FlashWork.{passed_by, work_by, fresh_after, page_octets}
 use Rattle.mu_model_node.specs.Events.{NodeEvent, PacketComes, TimeComes, has_record, last_count}
-use Rattle.mu_model_distributor.specs.DistMessages.{Taken, taken_at, sent_packet}
+use Rattle.mu_model_distributor.specs.DistMessages.{Taken, taken_at, Sent, sent_packet}
 use Rattle.mu_model_distributor.specs.DistState.{Upload, NoUpload, Uploading, Idle, DistDurable, DistState, run_upload, no_progress, job_of}
 use Rattle.mu_model_distributor.specs.Commit.{Outcome, is_long}
 use Rattle.mu_model_distributor.specs.Receivers.{empty_banks}
@@ -68,9 +68,11 @@ restarted address d = client_begun address (record {
 
 -- ---- events
 
--- the state after an event, the packets that are sent, whether the event was handled, and what it did to the flash
+-- the state after an event, the messages that are sent, each with its destination, and their packets, whether the event was
+-- handled, and what it did to the flash
 pub record DistStep : Type 0 where
   pub next : DistState
+  pub sends : List (ℕ × Sent)
   pub sent : List Packet
   pub handled : Bool
   pub work : FlashWork
@@ -80,11 +82,11 @@ abbrev pub at_moment : DistState → ℕ → DistState
 at_moment s now = record s { moment = max s.moment now }
 
 abbrev pub passed_over : DistState → DistStep
-passed_over s = record { next = s; sent = []; handled = false; work = Untouched }
+passed_over s = record { next = s; sends = []; sent = []; handled = false; work = Untouched }
 
 -- packets go out from the distributor's address
 abbrev pub stepped : ℕ → Outcome → DistStep
-stepped address o = record { next = o.next; sent = map (sent_packet address) o.sends; handled = true; work = o.work }
+stepped address o = record { next = o.next; sends = o.sends; sent = map (sent_packet address) o.sends; handled = true; work = o.work }
 
 abbrev pub on_packet : ℕ → DistState → ℕ → Option Taken → DistStep
 on_packet address s from (Some taken) = stepped address (on_taken address s from taken)

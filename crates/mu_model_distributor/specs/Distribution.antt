@@ -100,9 +100,9 @@ renewed r = record r { phase = phase_unknown; update_status = 0; transfer_status
 abbrev pub last_counter : ℕ
 last_counter = 2 ^ 48 - 1
 
--- a distribution begins, under the next number; an upload that was broken off is so from now on
-abbrev pub begun : ℕ → DistState → Settings → DistState
-begun address s ask = client_begun address (record s {
+-- a distribution with the next number; an upload that was broken off is so from now on
+abbrev pub next_distribution : DistState → Settings → DistState
+next_distribution s ask = record s {
   durable = record (s.durable) {
     phase = TransferActive;
     counter = s.durable.counter + 1;
@@ -112,7 +112,10 @@ begun address s ask = client_begun address (record s {
   };
   lags = false;
   progress = no_progress s.durable.receivers;
-})
+}
+
+abbrev pub begun : ℕ → DistState → Settings → DistState
+begun address s ask = client_begun address (next_distribution s ask)
 
 abbrev pub begins : ℕ → DistState → Option Settings → Result DistState ℕ
 begins address s None = Err insufficient_resources

@@ -13,10 +13,3 @@ pub mod DistTime
 pub mod DistEvents
 pub mod Runs
 pub mod Sound
-pub mod Laws
-pub mod Scenes
-pub mod Worked
-pub mod WorkedUploads
-pub mod WorkedPhases
-pub mod WorkedRun
-pub mod WorkedSettle

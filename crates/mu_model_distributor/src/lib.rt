@@ -1,8 +1,6 @@
 //! What a distributor is and does (MshDFU, Firmware Distribution Server; MshMBT, BLOB Transfer Server; in this profile).
 #![tactic(auto)]
 
-pub mod laws;
-
 /// The phase of a distribution (MshDFU, Distribution Phase).
 #[derive(Clone, Copy, Debug, PartialEq, Eq)]
 pub enum DistPhase {

@@ -1,0 +1,12 @@
+pub mod Laws
+pub mod Planned
+pub mod RowMoves
+pub mod RunLaws
+pub mod RowsTold
+pub mod Scenes
+pub mod Worked
+pub mod WorkedUploads
+pub mod WorkedPhases
+pub mod WorkedRun
+pub mod WorkedSettle
+pub mod WorkedEnds

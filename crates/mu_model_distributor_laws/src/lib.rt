@@ -1,0 +1,4 @@
+//! What holds of every distributor, proved of its definitions, and worked rows.
+#![tactic(auto)]
+
+pub mod laws;
