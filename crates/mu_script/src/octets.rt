@@ -49,8 +49,8 @@ fn digits_value(digits: &[u8], most: u64) -> Option<u64>
     Some(number as u64)
 }
 
-/// A decimal number in a range.
-pub(crate) fn number(octets: &[u8], least: u64, most: u64) -> Option<u64>
+/// A decimal number in a range, without a sign and without leading zeros.
+pub fn number(octets: &[u8], least: u64, most: u64) -> Option<u64>
     ensures reads { result ≡ number_of least most octets.now }
     ensures within { IfSome result (λ n. n ≤ most) }
 {

@@ -5,3 +5,5 @@ pub mod Places
 pub mod Working
 pub mod PayloadLines
 mod HeldRuns
+mod ImageTexts
+mod Refusals

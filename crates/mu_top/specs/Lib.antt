@@ -7,3 +7,4 @@ pub mod LineDone
 pub mod Payloads
 pub mod PayloadDone
 pub mod HeldRun
+pub mod Images

@@ -2,6 +2,7 @@
 #![tactic(auto)]
 
 mod call;
+mod image;
 mod line;
 #[cfg(test)]
 mod node_tests;

@@ -1,6 +1,5 @@
 // Doing an input line by line.
-ghost use Rattle.std.specs.Prelude.{◌≡◌, ◌≢◌, ◌≤◌, ◌<◌, ◌+◌, ◌⊎◌, ℕ, List, length, codes, map, OnOk, IfErr};
-ghost use Rattle.std.specs.List.{concat};
+ghost use Rattle.std.specs.Prelude.{◌≡◌, ◌≢◌, ◌≤◌, ◌<◌, ◌+◌, ◌⊎◌, ℕ, List, length, codes, OnOk, IfErr};
 ghost use Rattle.mu_model_flash.specs.Cause.{Rose};
 ghost use Rattle.mu_model_script.specs.Texts.{refused_text};
 ghost use Rattle.mu_top.specs.Ends.{Ends, Told};
@@ -8,8 +7,7 @@ ghost use Rattle.mu_top.specs.LineDone.{DidLine, StopsLine, EndsAt};
 
 use crate::reader::{LineReader, Next, ReadStop};
 use crate::status::Status;
-use crate::writing::write_pieces;
-use itoa::Buffer;
+use crate::writing::write_refusal;
 use mu_outside::{Sink, Source};
 
 /// Why a line wasn't done.
@@ -67,18 +65,7 @@ fn refuse<K: Sink>(sink: &mut K, number: u32, place: u16, word: &[u8]) -> Status
     ensures later { K.faults sink.old ≤ K.faults sink.new }
     ensures is { (result ≡ Status.Refused) ⊎ (result ≡ Status.SinkFault) }
 {
-    let mut number_buffer = Buffer::new();
-    let mut place_buffer = Buffer::new();
-    let pieces = [
-        b"refused ".as_slice(),
-        number_buffer.format(number).as_bytes(),
-        b" ",
-        place_buffer.format(place).as_bytes(),
-        b" ",
-        word,
-        b"\n",
-    ];
-    match write_pieces(sink, &pieces) {
+    match write_refusal(sink, number, u32::from(place), word) {
         Ok(()) => Status::Refused,
         Err(_) => Status::SinkFault,
     }
