@@ -10,4 +10,6 @@ pub mod RecordLemmas
 pub mod ChangeLemmas
 pub mod KindLemmas
 pub mod FreeLemmas
+pub mod RunOfPages
+pub mod PartLemmas
 pub mod PropLemmas

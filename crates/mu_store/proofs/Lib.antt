@@ -4,3 +4,4 @@ pub mod JudgeLemmas
 pub mod BootLemmas
 pub mod FreeBase
 pub mod FillLemmas
+pub mod PutLemmas
