@@ -12,4 +12,5 @@ pub mod KindLemmas
 pub mod FreeLemmas
 pub mod RunOfPages
 pub mod PartLemmas
+pub mod BlockLemmas
 pub mod PropLemmas

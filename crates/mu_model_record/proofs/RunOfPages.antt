@@ -1,12 +1,10 @@
 -- Pages that are erased or programmed one after the other.
-use Rattle.std.proofs.Common.{◌≡◌, ◌⊎◌, inl, inr, ⊎_elim, ℕ, zero, suc, ◌+◌, ◌-◌, ◌*◌, ◌<◌, ◌≤◌, IsTrue, List, [], ◌∷◌, ◌++◌, length, get_or, replicate, take, drop, refl, sym, ◌∙◌, ap, subst, arith}
-use Rattle.std.proofs.lemmas.List.{ext_get_or}
-use Rattle.mu_model_flash.specs.Bits.{blank, written, part_of, SameOutside, Between}
+use Rattle.std.proofs.Common.{◌≡◌, inl, ℕ, zero, suc, ◌+◌, ◌-◌, ◌<◌, ◌≤◌, IsTrue, List, [], ◌∷◌, ◌++◌, length, replicate, refl, sym, ◌∙◌, ap, subst, arith}
+use Rattle.mu_model_flash.specs.Bits.{blank, written, SameOutside}
 use Rattle.mu_model_flash.specs.Flash.{Seen}
 use Rattle.mu_model_flash.specs.Run.{either, exact, Refines, Ran, Broke}
-use Rattle.mu_model_flash.proofs.BitLemmas.{length-blank, get-blank}
-use Rattle.mu_model_flash.proofs.RangeLemmas.{length-part, get-part, outside_on, outside-written, part-outside, part-written, torn-outside}
-use Rattle.mu_model_flash.proofs.Compose.{then_ran, then_broke, broke_more, told_back}
+use Rattle.mu_model_flash.proofs.RangeLemmas.{outside_on, outside-written, torn-outside}
+use Rattle.mu_model_flash.proofs.Compose.{then_ran, then_broke, broke_more}
 use Rattle.mu_model_flash.proofs.Readings.{ran_as, broke_as}
 use Rattle.mu_model_record.specs.Turns.{StaysOutside}
 

@@ -5,3 +5,4 @@ pub mod BootLemmas
 pub mod FreeBase
 pub mod FillLemmas
 pub mod PutLemmas
+pub mod BlockPut
