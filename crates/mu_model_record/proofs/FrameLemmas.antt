@@ -1,5 +1,5 @@
 -- What a store's state says of a flash stays where an operation touches nothing that it speaks of.
-use Rattle.std.proofs.Common.{◌≡◌, ◌⊎◌, inl, inr, ℕ, ◌+◌, ◌-◌, ◌*◌, ◌/◌, ◌%◌, ◌^◌, ◌<◌, ◌≤◌, Option, Some, None, List, length, min, get_or, refl, ◌∙◌, arith}
+use Rattle.std.proofs.Common.{◌≡◌, inl, inr, ℕ, ◌+◌, ◌-◌, ◌*◌, ◌/◌, ◌%◌, ◌^◌, ◌<◌, ◌≤◌, Option, Some, None, List, length, min, get_or, refl, ◌∙◌, arith}
 use Rattle.std.specs.Prelude.{slice_index_or}
 use Rattle.std.proofs.Math.Nat.{div-add-mod'}
 use Rattle.std.proofs.lemmas.Nat.{pow_pos}
@@ -12,22 +12,9 @@ use Rattle.mu_model_record.specs.declared.BankState.TheVariants.{Empty, Filling,
 use Rattle.mu_model_record.specs.Page.{Word}
 use Rattle.mu_model_record.specs.Record.{IsRecord, IsEntryInRange, entry_of}
 use Rattle.mu_model_record.specs.Store.{Content, nothing, held, whole, StoreState, content_of_bank, pages_of, mark_place, bank_place, block_place, BlockLies, BankHolds}
+use Rattle.mu_model_record.specs.Free.{Apart, IsFreeOf}
 use Rattle.mu_model_record.specs.Represents.{RepresentsAt}
 use Rattle.mu_model_record.proofs.ControlLemmas.{control_same, same_page}
-
--- a range is apart from another
-abbrev pub Apart : ℕ → ℕ → ℕ → ℕ → Type 0
-Apart at n p m = (p + m ≤ at) ⊎ (at + n ≤ p)
-
--- a range has nothing of what a bank holds
-abbrev pub IsFreeOf : Record → ℕ → BankState → Content → ℕ → ℕ → Type 0
-IsFreeOf r b Empty content at n = Unit {0}
-IsFreeOf r b (Filling size log) nothing at n = Unit {0}
-IsFreeOf r b (Filling size log) (whole octets) at n = Unit {0}
-IsFreeOf r b (Filling size log) (held blocks) at n =
-    ((i : ℕ) → i < block_count size log → Apart at n (mark_place b i) 1)
-    × ((i : ℕ) (octets : List ℕ) → i < block_count size log → slice_index_or blocks i None ≡ Some octets → Apart at n (block_place r b log i) (block_length size log i))
-IsFreeOf r b (Sealed meta) content at n = Apart at n (bank_place r b) meta.size
 
 mul_le : (m n k : ℕ) → m ≤ n → m * k ≤ n * k
 mul_le m n k le = grind arith

@@ -7,7 +7,8 @@ use Rattle.mu_model_record.specs.Turns.{StaysOutside}
 use Rattle.mu_model_record.specs.Record.{entry_of}
 use Rattle.mu_model_record.specs.Store.{StoreState, content_of_bank}
 use Rattle.mu_model_record.specs.Represents.{RepresentsAt, RepresentsStore}
-use Rattle.mu_model_record.proofs.FrameLemmas.{IsFreeOf, represents_same}
+use Rattle.mu_model_record.specs.Free.{IsFreeOf}
+use Rattle.mu_model_record.proofs.FrameLemmas.{represents_same}
 
 -- the same state, so many times
 pub last_same : {S : Type 0} (d : S) (n : ℕ) → last_of d (replicate n d) ≡ d

@@ -10,4 +10,7 @@ pub mod RecordLemmas
 pub mod ChangeLemmas
 pub mod KindLemmas
 pub mod FreeLemmas
+pub mod RunOfPages
+pub mod PartLemmas
+pub mod BlockLemmas
 pub mod PropLemmas

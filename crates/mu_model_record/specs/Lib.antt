@@ -3,6 +3,7 @@ pub mod Page
 pub mod Turns
 pub mod Record
 pub mod Store
+pub mod Free
 pub mod Represents
 pub mod Kinds
 pub mod Next

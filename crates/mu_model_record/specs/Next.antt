@@ -1,5 +1,5 @@
 -- What a record that is written next makes of a store's state, and how many operations that takes (this profile).
-use Rattle.std.specs.Prelude.{◌≡◌, ℕ, ◌+◌, ◌-◌, ◌<◌, ◌&&◌, if◌then◌else◌, Bool, List, [], ◌∷◌, length, drop, bytes_eq, nat_lt}
+use Rattle.std.specs.Prelude.{◌≡◌, ℕ, ◌+◌, ◌-◌, ◌<◌, ◌&&◌, if◌then◌else◌, Bool, List, [], ◌∷◌, length, drop, bytes_eq, nat_lt, replicate, ◌++◌}
 use Rattle.mu_model_flash.specs.Bits.{SameOutside}
 use Rattle.mu_model_record.specs.declared.Record.{Record}
 use Rattle.mu_model_record.specs.Record.{IsRecord, entry_of, zeros}
@@ -26,3 +26,7 @@ record_steps fresh d e = if is_short e.present && nat_lt 0 fresh then e ∷ [] e
 -- the slots that are fresh after it
 abbrev pub fresh_after : ℕ → Record → ℕ
 fresh_after fresh r = if is_short r then (if nat_lt 0 fresh then fresh - 1 else 3) else 0
+
+-- The states after each operation of a block of so many pages: the pages are erased and programmed, and then its mark is set.
+abbrev pub block_steps : ℕ → StoreState → StoreState → List StoreState
+block_steps pages d e = replicate (pages + pages) d ++ e ∷ []

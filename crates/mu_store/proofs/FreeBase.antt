@@ -15,7 +15,7 @@ use Rattle.mu_model_record.specs.Record.{IsFilling, entry_of}
 use Rattle.mu_model_record.specs.Store.{Content, StoreState, content_of_bank}
 use Rattle.mu_model_record.specs.Represents.{RepresentsStore}
 use Rattle.mu_model_record.proofs.ControlLemmas.{same_page}
-use Rattle.mu_model_record.proofs.FrameLemmas.{IsFreeOf}
+use Rattle.mu_model_record.specs.Free.{IsFreeOf}
 use Rattle.mu_model_record.proofs.FreeLemmas.{free_same, free_reads, length_same}
 use Rattle.mu_record.specs.Place.{IsPlace, HoldsAt}
 

@@ -4,3 +4,5 @@ pub mod JudgeLemmas
 pub mod BootLemmas
 pub mod FreeBase
 pub mod FillLemmas
+pub mod PutLemmas
+pub mod BlockPut

@@ -1,6 +1,8 @@
 -- What every typed state of a store keeps, and what a record that it writes does.
-use Rattle.std.specs.Prelude.{ℕ, ◌≡◌, ◌≤◌, IsTrue, ◌<◌, [], ◌∷◌, Result, MatchResult, IfOk, slice_index}
-use Rattle.mu_model_flash.specs.Bits.{SameOutside}
+use Rattle.std.specs.Prelude.{List, ℕ, ◌+◌, ◌*◌, length, replicate, ◌≡◌, ◌≤◌, IsTrue, ◌<◌, [], ◌∷◌, Result, MatchResult, IfOk, slice_index}
+use Rattle.mu_model_flash.specs.Bits.{part_of, SameOutside}
+use Rattle.mu_model_record.specs.Turns.{before, after, MarkTurns}
+use Rattle.mu_model_record.specs.Free.{IsFree}
 use Rattle.mu_model_flash.specs.Cause.{Rose}
 use Rattle.mu_model_flash.specs.Flash.{Seen}
 use Rattle.mu_model_flash.specs.Run.{either, Ran, Broke}
@@ -47,3 +49,25 @@ ErasesMarks seen base result =
     → MatchResult result
     (λ next. Ran (either RepresentsStore) d (d ∷ []) (seen base.flash) (seen next.flash) × BaseHolds seen next d)
     (λ stopped. Broke (either RepresentsStore) d (d ∷ []) (seen base.flash) (seen stopped.flash))
+
+-- all outside a range is as before
+abbrev pub StaysOutsideOf : ℕ → ℕ → Seen → Seen → Type 0
+StaysOutsideOf at n old new = IsTrue old.told → SameOutside at n old.octets new.octets
+
+-- octets lie at a place
+abbrev pub IsPut : ℕ → List ℕ → Seen → Seen → Type 0
+IsPut at octets old new = IsTrue old.told → part_of new.octets at (length octets) ≡ octets
+
+-- so many pages are erased and programmed, and the state stays
+abbrev pub PutsPages : {F : Type 0} {g : _} → (F → Seen) → Base F g → ℕ → ℕ → Result (Base F g) (Stopped F) → Type 0
+PutsPages seen base at pages result =
+    (d : StoreState) → BaseHolds seen base d → IsFree d at (4096 * pages)
+    → MatchResult result
+    (λ next. Ran (either RepresentsStore) d (replicate (pages + pages) d) (seen base.flash) (seen next.flash) × BaseHolds seen next d)
+    (λ stopped. Broke (either RepresentsStore) d (replicate (pages + pages) d) (seen base.flash) (seen stopped.flash))
+
+-- a mark is set
+abbrev pub SetsMark : {F : Type 0} {g : _} → (F → Seen) → Base F g → ℕ → Result (Base F g) (Stopped F) → Type 0
+SetsMark seen base at result = MatchResult result
+    (λ next. Ran (either (MarkTurns (seen base.flash).octets at)) before (after ∷ []) (seen base.flash) (seen next.flash))
+    (λ stopped. Broke (either (MarkTurns (seen base.flash).octets at)) before (after ∷ []) (seen base.flash) (seen stopped.flash))

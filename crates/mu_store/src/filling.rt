@@ -1,14 +1,16 @@
 // A store of which one bank is being filled.
-ghost use Rattle.std.specs.Prelude.{◌≡◌, ℕ, ◌+◌, ◌-◌, ◌*◌, ◌<◌, ◌^◌, ◌↔◌, IfOk, IfErr, IsErrAnd, IsTrue, false, slice_index, slice_index_or};
+ghost use Rattle.std.specs.Prelude.{◌≡◌, ℕ, ◌+◌, ◌-◌, ◌*◌, ◌<◌, ◌≤◌, ◌^◌, ◌↔◌, IfOk, IfErr, IsErrAnd, IsTrue, false, slice_index, slice_index_or};
 ghost use Rattle.mu_model_image.specs.Pieces.{block_count};
 ghost use Rattle.mu_model_record.specs.declared.BankState.TheVariants.{Filling};
-ghost use Rattle.mu_model_record.specs.Record.{entry_of};
-ghost use Rattle.mu_model_record.specs.Store.{mark_place};
+ghost use Rattle.mu_model_record.specs.Record.{IsRecord, entry_of};
+ghost use Rattle.mu_model_record.specs.Store.{mark_place, block_place};
 ghost use Rattle.mu_model_record.proofs.PropLemmas.{bank_set};
 
 use crate::base::Base;
+use crate::digest::bank_place;
 use crate::entries::with_entry;
 use crate::faults::{Stopped, StoreFault};
+use crate::pages::PAGE;
 use crate::store::Store;
 use mu_outside::Flash;
 use mu_record::{BankState, Record, Tag};
@@ -26,14 +28,27 @@ pub struct Filling<F: Flash> {
     ghost unset: { IsTrue (F.seen base.flash).told → (i : ℕ) → i < block_count size log → slice_index_or held i false ≡ false → slice_index (F.seen base.flash).octets (mark_place bank i) ≡ 0xFF },
 }
 
+// The page at which a block begins.
+fn block_page(fields: &Record, bank: u8, log: u8, i: u16) -> u32
+    requires in_range { IsRecord fields.now }
+    requires there { bank < fields.now.number }
+    requires log_least { 12 ≤ log }
+    requires log_most { log ≤ 14 }
+    requires few { i < 256 }
+    ensures { 4096 * result ≡ block_place fields.now bank log i }
+{
+    (bank_place(fields, bank) + ((i as u32) << log)) / PAGE
+}
+
 impl<F: Flash> Filling<F> {
-    ghost use Rattle.std.specs.Prelude.{slice_set};
+    ghost use Rattle.std.specs.Prelude.{slice_set, length, true};
+    ghost use Rattle.mu_model_image.specs.Pieces.{block_length, piece_count};
     ghost use Rattle.mu_model_flash.specs.Run.{either, Goes};
     ghost use Rattle.mu_model_record.specs.Store.{StoreState};
     ghost use Rattle.mu_model_record.specs.Represents.{RepresentsStore};
-    ghost use Rattle.mu_model_record.specs.Next.{record_steps, fresh_after};
+    ghost use Rattle.mu_model_record.specs.Next.{record_steps, block_steps, fresh_after};
     ghost use Rattle.mu_model_record.specs.declared.BankState.TheVariants.{Empty};
-    ghost use Rattle.mu_model_record.specs.Changes.{next_record, tagged, emptied};
+    ghost use Rattle.mu_model_record.specs.Changes.{next_record, tagged, emptied, with_block};
     ghost use Rattle.mu_store.specs.Booted.{FillingHolds};
     ghost use Rattle.mu_store.specs.View.{store_flash, store_record, store_fresh, StoreHolds, stopped_seen, ByFlash, StoreFaults};
     ghost use Rattle.mu_store.specs.FillingView.{filling_flash, filling_record, filling_fresh, filling_bank, filling_size, filling_log, filling_flags, IsFillingOf, FillingFaults};
@@ -78,6 +93,47 @@ impl<F: Flash> Filling<F> {
                 log,
                 held,
             }),
+            Err(stopped) => Err(stopped),
+        }
+    }
+
+    /// Puts a block: erases its pages, programs them and sets its mark. The block isn't held, and the octets are as many as it has.
+    pub fn put_block(self, i: u16, octets: &[u8]) -> Result<Filling<F>, Stopped<F>>
+        requires there { i < block_count (filling_size self) (filling_log self) }
+        requires whole { length octets.now ≡ block_length (filling_size self) (filling_log self) i }
+        requires free { slice_index_or (filling_flags self) i false ≡ false }
+        ensures fields { IfOk result (λ filling. filling_record filling ≡ filling_record self) }
+        ensures bank { IfOk result (IsFillingOf (filling_bank self) (filling_size self) (filling_log self) (slice_set (filling_flags self) i true)) }
+        ensures fresh { IfOk result (λ filling. filling_fresh filling ≡ filling_fresh self) }
+        ensures why { IfErr result (λ stopped. stopped.why ≡ StoreFault.Flash) }
+        ensures runs { (d : StoreState) → FillingHolds F.seen self d
+            → Goes (either RepresentsStore) d (block_steps (piece_count (length octets.now) 4096) d (with_block d (filling_bank self) i octets.now)) (F.seen (filling_flash self))
+            (λ filling. F.seen (filling_flash filling)) (stopped_seen F.seen) (FillingHolds F.seen) ByFlash result }
+        ensures cause { FillingFaults (F.seen (filling_flash self)) F.seen result }
+    {
+        let Filling {
+            base,
+            bank,
+            size,
+            log,
+            mut held,
+        } = self;
+        let first = block_page(&base.fields, bank, log, i);
+        let put = match base.put(first, octets) {
+            Ok(put) => put,
+            Err(stopped) => return Err(stopped),
+        };
+        match put.set_mark(PAGE * (2 + bank as u32) + i as u32) {
+            Ok(base) => {
+                held[i as usize] = true;
+                Ok(Filling {
+                    base,
+                    bank,
+                    size,
+                    log,
+                    held,
+                })
+            }
             Err(stopped) => Err(stopped),
         }
     }

@@ -10,6 +10,7 @@ mod filling;
 mod formatting;
 mod judge;
 mod marks;
+mod pages;
 mod store;
 
 pub use booting::{BootFail, BootWhy, Booted, boot};
