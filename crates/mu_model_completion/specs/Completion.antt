@@ -96,13 +96,18 @@ pub record CanBegin (plan : Plan) (image : List ℕ) (to : List ℕ) (members : 
 
 -- ---- the bound
 
--- sixteens of receivers, and of chunks of a full block
+-- sixteens of receivers, and of packets
 abbrev pub sixteens : ℕ → ℕ
 sixteens n = piece_count n 16
 
--- seven steps in which each is asked once; and for each block two such steps and the chunks
+-- packets for a chunk: one to a group, and without one to each receiver
+abbrev pub copies : Sending → (receivers : ℕ) → ℕ
+copies p receivers = if p.group == 0 then receivers else 1
+
+-- seven steps in which each is asked once; and for each block two such steps and the chunks of a full block
 abbrev pub push_turns : Sending → (receivers : ℕ) → ℕ
-push_turns p receivers = 7 * sixteens receivers + block_total p * (2 * sixteens receivers + sixteens (chunk_total p 0))
+push_turns p receivers =
+    7 * sixteens receivers + block_total p * (2 * sixteens receivers + sixteens (chunk_total p 0 * copies p receivers))
 
 -- ---- the law
 
@@ -110,9 +115,9 @@ push_turns p receivers = 7 * sixteens receivers + block_total p * (2 * sixteens 
 abbrev pub succeeded : ℕ → Row
 succeeded a = record { address = a; index = 0; phase = 8; update_status = 0; transfer_status = 0; progress = 100 }
 
--- in push, to a group or to one receiver, all receivers have succeeded after so many turns, and from then on
+-- in push all receivers have succeeded after so many turns, and from then on
 abbrev pub PushCompletes : Type 0
 PushCompletes =
     (plan : Plan) (image : List ℕ) (to : List ℕ) (members : List Member) (from : CanBegin plan image to members)
-    → plan.sending.mode ≡ 1 → ((plan.sending.group ≢ 0) ⊎ (length to ≡ 1))
-    → (n : ℕ) → push_turns plan.sending (length to) ≤ n → rows_at from.config.address (settle n members) ≡ Some (map succeeded to)
+    → plan.sending.mode ≡ 1 → (n : ℕ) → push_turns plan.sending (length to) ≤ n
+    → rows_at from.config.address (settle n members) ≡ Some (map succeeded to)
