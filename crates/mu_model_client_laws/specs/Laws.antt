@@ -139,6 +139,15 @@ TimeKeepsRanks = (c : Client) (image : List ℕ) (now : ℕ) → IsSound c → E
 abbrev pub CancellingKeepsRanks : Type 0
 CancellingKeepsRanks = (c : Client) → Each RankRises c.receivers (take_cancel c).receivers
 
+-- while applying and cancelling, time drops nobody
+pub record StandsAsBefore (before after : Receiver) : Type 0 where
+  pub standing_same : after.standing ≡ before.standing
+
+abbrev pub ApplyingDropsNobody : Type 0
+ApplyingDropsNobody =
+    (c : Client) (image : List ℕ) (now : ℕ) → IsSound c → (c.place ≡ At Apply) ⊎ (c.place ≡ At Cancel)
+    → Each StandsAsBefore c.receivers (due c image now).next.receivers
+
 abbrev pub TimeChangesAtFive : Type 0
 TimeChangesAtFive =
     (c : Client) (image : List ℕ) (now : ℕ) → IsSound c → Each (TimeChanges c now) c.receivers (due c image now).next.receivers
