@@ -12,7 +12,7 @@ use Rattle.mu_model_client.specs.Sets.{below, set_of_field}
 use Rattle.mu_model_wire.specs.Reports.{bit_field}
 use Rattle.mu_model_client.specs.Answers.{Answer, FromUpdate}
 use Rattle.mu_model_client.specs.Rows.{Row, rank, is_reported, apply_success, apply_failed, phase_unknown, transfer_canceled, row_after}
-use Rattle.mu_model_client.specs.Client.{Step, Chunks, Cancel, Receiver, is_active, Item, Says, Sends, Place, At, Verified, Client, rows, chunk_total, round_time}
+use Rattle.mu_model_client.specs.Client.{Step, Chunks, Cancel, Receiver, is_active, Item, Says, Sends, Place, At, Verified, Client, rows, chunk_total, round_time, Apply}
 use Rattle.mu_model_client.specs.Begin.{start, start_blob, resume, take_apply, take_cancel}
 use Rattle.mu_model_client.specs.Told.{told}
 use Rattle.mu_model_client.specs.Lists.{chunk_items, lacks_chunk, missing_of, sent_for}

@@ -17,3 +17,4 @@ pub mod Course
 pub mod Middle
 pub mod End
 pub mod Theorem
+pub mod SixtyFour

@@ -1,7 +1,7 @@
 -- How many turns an update takes in which nothing is lost.
-use Rattle.std.specs.Prelude.{ℕ, ◌≡◌, ◌≢◌, ◌<◌, ◌≤◌, ◌+◌, ◌*◌, ◌⊎◌, ◌==◌, true, false, List, [], ◌∷◌, length, map, Option, Some, None, if◌then◌else◌}
+use Rattle.std.specs.Prelude.{ℕ, ◌≡◌, ◌≢◌, ◌<◌, ◌≤◌, ◌+◌, ◌*◌, ◌^◌, ◌⊎◌, ◌==◌, true, false, List, [], ◌∷◌, length, map, Option, Some, None, if◌then◌else◌}
 use Rattle.std.specs.List.{AllByRecursion}
-use Rattle.mu_model_image.specs.Meta.{Image, IsMeta, IsFit}
+use Rattle.mu_model_image.specs.Meta.{Image, IsMeta, IsFit, image_of}
 use Rattle.mu_model_image.specs.Pieces.{piece_count}
 use Rattle.mu_model_node.specs.declared.NodeConfig.{NodeConfig}
 use Rattle.mu_model_node.specs.NodeState.{NodeState}
@@ -10,6 +10,7 @@ use Rattle.mu_model_client.specs.declared.Plan.{Plan}
 use Rattle.mu_model_client.specs.Rows.{Row}
 use Rattle.mu_model_client.specs.Client.{rows, block_total, chunk_total}
 use Rattle.mu_model_client.specs.Begin.{start, is_ended}
+use Rattle.mu_model_completion.specs.Worked.{three_nodes}
 use Rattle.mu_model_completion.specs.Turn.{Member, Part, IsNode, IsUpdater, settle}
 
 -- ---- members by address
@@ -121,3 +122,20 @@ PushCompletes =
     (plan : Plan) (image : List ℕ) (to : List ℕ) (members : List Member) (from : CanBegin plan image to members)
     → plan.sending.mode ≡ 1 → (n : ℕ) → push_turns plan.sending (length to) ≤ n
     → rows_at from.config.address (settle n members) ≡ Some (map succeeded to)
+
+-- three receivers and 64 KiB in 16 blocks of 21 chunks, to a group: 71 turns
+abbrev pub plan_64 : (version : ℕ) → List ℕ → Plan
+plan_64 version image = record {
+  sending = record { from = 1; id = 0x0001_0000_0000_0007; size = 65536; log = 12; chunk = 200; mode = 1; group = 0xC000; ttl = 5; base = 0 };
+  meta = (image_of version image).meta;
+  apply = true;
+}
+
+abbrev pub members_64 : (version : ℕ) → List ℕ → List Member
+members_64 version image =
+    record { config = record { address = 1; group = 0 }; moment = 0; part = IsUpdater (start (plan_64 version image) ((2, 0) ∷ (3, 0) ∷ (4, 0) ∷ [])) image } ∷ three_nodes
+
+abbrev pub ThreeOver64KiB : Type 0
+ThreeOver64KiB =
+    (version : ℕ) (image : List ℕ) → 1 < version → version < 2 ^ 32 → length image ≡ 65536
+    → rows_at 1 (settle 71 (members_64 version image)) ≡ Some (succeeded 2 ∷ succeeded 3 ∷ succeeded 4 ∷ [])
