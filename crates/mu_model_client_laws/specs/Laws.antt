@@ -139,6 +139,17 @@ TimeKeepsRanks = (c : Client) (image : List ℕ) (now : ℕ) → IsSound c → E
 abbrev pub CancellingKeepsRanks : Type 0
 CancellingKeepsRanks = (c : Client) → Each RankRises c.receivers (take_cancel c).receivers
 
+-- a receiver that isn't active stays as it stands, whatever comes: who was dropped is dropped for good
+pub record StaysGone (before after : Receiver) : Type 0 where
+  pub stays : is_active before ≡ false → after.standing ≡ before.standing
+
+pub record DropsAreForGood : Type 0 where
+  pub tells : (c : Client) (from : ℕ) (answer : Answer) (now : ℕ) → IsSound c → Each StaysGone c.receivers (told c from answer now).receivers
+  pub dues : (c : Client) (image : List ℕ) (now : ℕ) → IsSound c → Each StaysGone c.receivers (due c image now).next.receivers
+
+abbrev pub DropsStay : Type 0
+DropsStay = DropsAreForGood
+
 -- while applying and cancelling, time drops nobody
 pub record StandsAsBefore (before after : Receiver) : Type 0 where
   pub standing_same : after.standing ≡ before.standing
