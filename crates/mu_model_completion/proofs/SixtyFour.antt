@@ -98,4 +98,4 @@ module _ (laws : KeepsPlan) (fields : FieldsAreRead) (tiles : Tiles) (read : Met
 
   pub three : rows_at 1 (settle 71 (members_64 version image)) ≡ Some (succeeded 2 ∷ succeeded 3 ∷ succeeded 4 ∷ [])
   unfolding from
-  three = push_completes laws fields tiles read tested (plan_64 version image) image (2 ∷ 3 ∷ 4 ∷ []) (members_64 version image) from refl 71 bound
+  three = (push_completes laws fields tiles read tested (plan_64 version image) image (2 ∷ 3 ∷ 4 ∷ []) (members_64 version image) from refl 71 bound).rows

@@ -13,6 +13,7 @@ use Rattle.mu_model_wire.specs.Reports.{has, every_number}
 use Rattle.mu_model_node.specs.declared.NodeConfig.{NodeConfig}
 use Rattle.mu_model_client.specs.declared.Sending.{Sending}
 use Rattle.mu_model_client.specs.declared.Plan.{Plan}
+use Rattle.mu_model_client.specs.declared.Dropped.{Dropped}
 use Rattle.mu_model_client.specs.Rows.{Row as ShownRow}
 use Rattle.mu_model_client.specs.Client.{Client, Receiver, row_of, Update, Item, Sends, Before, At, Check, Chunks, block_total, chunk_total, full_chunks}
 use Rattle.mu_model_client.specs.Begin.{start, at_first, new_active, purpose_of}
@@ -21,7 +22,7 @@ use Rattle.mu_model_client.specs.Lists as l
 use Rattle.mu_model_client.specs.Lists.{chunk_items, missing_of, lacking}
 use Rattle.mu_model_client_laws.specs.Laws.{KeepsPlan, FieldsAreRead}
 use Rattle.mu_model_completion.specs.Turn.{Member, IsUpdater, turn, settle}
-use Rattle.mu_model_completion.specs.Completion.{at_address, rows_at, rows_in, Takes, NoneTwice, CanBegin, sixteens, copies, push_turns, succeeded}
+use Rattle.mu_model_completion.specs.Completion.{Completed, drop_of, drops_in, drops_at, at_address, rows_at, rows_in, Takes, NoneTwice, CanBegin, sixteens, copies, push_turns, succeeded}
 use Rattle.mu_model_completion.proofs.Pairs.{Pair, receiver_in, IsHere}
 use Rattle.mu_model_completion.proofs.Nodes.{Offer}
 use Rattle.mu_model_completion.proofs.Receivers.{rcv, all_held}
@@ -410,6 +411,19 @@ module _ (laws : KeepsPlan) (fields : FieldsAreRead) (tiles : Tiles) (read : Met
         cons_same : {x y : ShownRow} {xs ys : List ShownRow} → x ≡ y → xs ≡ ys → (x ∷ xs) ≡ (y ∷ ys)
         cons_same e f = rw (e, f) refl
 
+    drops_are : (c : ℕ) (qs : List Pair) → AllByRecursion (Final_ c) qs → map drop_of (map receiver_in qs) ≡ map (λ (a : ℕ). None) (map (λ (e : NodeConfig). e.address) (configs qs))
+    drops_are c [] h = refl
+    drops_are c (x ∷ qs) h = cons_same (ap drop_of h.0.0.r_is) (drops_are c qs h.1)
+      where
+        cons_same : {x y : Option Dropped} {xs ys : List (Option Dropped)} → x ≡ y → xs ≡ ys → (x ∷ xs) ≡ (y ∷ ys)
+        cons_same e f = rw (e, f) refl
+
+    over_drops : (xs : List Member) → IsOver xs → drops_at config.address xs ≡ Some (map (λ a. None) to)
+    over_drops xs o =
+        let v = o.over in
+        ap drops_in v.station.holds.updater
+        ∙ ap Some (drops_are o.c v.qs v.all ∙ ap (map (λ (a : ℕ). None)) (ap (λ es. map (λ (e : NodeConfig). e.address) es) v.same ∙ configs_address to from.takes))
+
     over_rows : (xs : List Member) → IsOver xs → rows_at config.address xs ≡ Some (map succeeded to)
     over_rows xs o =
         let v = o.over in
@@ -428,7 +442,7 @@ module _ (laws : KeepsPlan) (fields : FieldsAreRead) (tiles : Tiles) (read : Met
     settle_more zero n xs = let e : 0 + n ≡ n = omega arith in ap (λ k. settle k xs) (sym e)
     settle_more (suc m) n xs = let e : suc m + n ≡ suc (m + n) = omega arith in settle_more m n (turn xs) ∙ ap (λ k. settle k xs) (sym e)
 
-    completes : (n : ℕ) → push_turns p (length to) ≤ n → rows_at config.address (settle n members) ≡ Some (map succeeded to)
+    completes : (n : ℕ) → push_turns p (length to) ≤ n → Completed config.address to (settle n members)
     completes n le =
         let w = course laws fields tiles p meta config image blocks good whole chunk_some cs apart some q few fits q_some mc counts sends members first_station in
         let short = w.few in
@@ -436,7 +450,8 @@ module _ (laws : KeepsPlan) (fields : FieldsAreRead) (tiles : Tiles) (read : Met
         let rest : ℕ = n - w.turns in
         let e : w.turns + rest ≡ n = omega (arith, short, within, le) in
         let later = some_always laws fields tiles p meta config image blocks good whole chunk_some cs apart some q few fits q_some mc counts sends rest (settle w.turns members) w.then_is in
-        over_rows (settle n members) (subst (λ k. IsOver (settle k members)) e (subst IsOver (settle_more w.turns rest members) later))
+        let there = (subst (λ k. IsOver (settle k members)) e (subst IsOver (settle_more w.turns rest members) later)) in
+        record { rows = over_rows (settle n members) there; drops = over_drops (settle n members) there }
 
   -- ---- to a group
 
@@ -475,7 +490,7 @@ module _ (laws : KeepsPlan) (fields : FieldsAreRead) (tiles : Tiles) (read : Met
   some_total : 1 ≤ chunk_total p 0
   some_total = let t = total_is in some_chunk tiles p chunk_some 0 (omega (arith, t))
 
-  by_group : plan.sending.group ≢ 0 → (n : ℕ) → push_turns p (length to) ≤ n → rows_at config.address (settle n members) ≡ Some (map succeeded to)
+  by_group : plan.sending.group ≢ 0 → (n : ℕ) → push_turns p (length to) ≤ n → Completed config.address to (settle n members)
   by_group g n le =
       let one : chunk_total p 0 * copies p (length to) ≡ chunk_total p 0 * 1 = ap (λ z. chunk_total p 0 * (if z then length to else 1)) (no_zero plan.sending.group g) in
       let s = some_total in
@@ -581,18 +596,18 @@ module _ (laws : KeepsPlan) (fields : FieldsAreRead) (tiles : Tiles) (read : Met
       mul_le_both : (a b m n : ℕ) → a ≤ m → b ≤ n → a * b ≤ m * n
       mul_le_both a b m n h k = mul-le a b m n h k
 
-  by_each : (p.group == 0) ≡ true → (n : ℕ) → push_turns p (length to) ≤ n → rows_at config.address (settle n members) ≡ Some (map succeeded to)
+  by_each : (p.group == 0) ≡ true → (n : ℕ) → push_turns p (length to) ≤ n → Completed config.address to (settle n members)
   by_each g n le =
       let copy : chunk_total p 0 * copies p (length to) ≡ chunk_total p 0 * length to = ap (λ z. chunk_total p 0 * (if z then length to else 1)) g in
       let one : 1 * 1 ≤ chunk_total p 0 * length to = mul-le 1 1 (chunk_total p 0) (length to) some_total from.some in
       completes alone_mc (alone_sends g) (omega (arith, copy, one)) n le
 
-  by_zero : (zero : Bool) → (plan.sending.group == 0) ≡ zero → (n : ℕ) → push_turns p (length to) ≤ n → rows_at config.address (settle n members) ≡ Some (map succeeded to)
+  by_zero : (zero : Bool) → (plan.sending.group == 0) ≡ zero → (n : ℕ) → push_turns p (length to) ≤ n → Completed config.address to (settle n members)
   by_zero true e n le = by_each e n le
   by_zero false e n le = by_group (λ z. false_true (sym e ∙ eq-eqb plan.sending.group 0 z)) n le
     where
       false_true : false ≡ true → ⊥
       false_true h = grind (arith, h)
 
-  pub push_completes : (n : ℕ) → push_turns p (length to) ≤ n → rows_at config.address (settle n members) ≡ Some (map succeeded to)
+  pub push_completes : (n : ℕ) → push_turns p (length to) ≤ n → Completed config.address to (settle n members)
   push_completes n le = by_zero (plan.sending.group == 0) refl n le

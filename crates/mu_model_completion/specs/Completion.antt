@@ -7,9 +7,10 @@ use Rattle.mu_model_node.specs.declared.NodeConfig.{NodeConfig}
 use Rattle.mu_model_node.specs.NodeState.{NodeState}
 use Rattle.mu_model_client.specs.declared.Sending.{Sending}
 use Rattle.mu_model_client.specs.declared.Plan.{Plan}
+use Rattle.mu_model_client.specs.declared.Dropped.{Dropped}
 use Rattle.mu_model_client.specs.Rows.{Row}
-use Rattle.mu_model_client.specs.Client.{rows, block_total, chunk_total}
-use Rattle.mu_model_client.specs.Begin.{start, is_ended}
+use Rattle.mu_model_client.specs.Client.{Receiver, rows, block_total, chunk_total}
+use Rattle.mu_model_client.specs.Begin.{start, is_ended, cause_of}
 use Rattle.mu_model_completion.specs.Worked.{three_nodes}
 use Rattle.mu_model_completion.specs.Turn.{Member, Part, IsNode, IsUpdater, settle}
 
@@ -44,6 +45,21 @@ rows_in (Some x) = rows_of x.part
 
 abbrev pub rows_at : ℕ → List Member → Option (List Row)
 rows_at a members = rows_in (at_address a members)
+
+-- why each receiver of the updater at an address was dropped, if it was
+abbrev pub drop_of : Receiver → Option Dropped
+drop_of r = cause_of r.standing
+
+abbrev pub drops_of : Part → Option (List (Option Dropped))
+drops_of (IsNode s) = None
+drops_of (IsUpdater c image) = Some (map drop_of c.receivers)
+
+abbrev pub drops_in : Option Member → Option (List (Option Dropped))
+drops_in None = None
+drops_in (Some x) = drops_of x.part
+
+abbrev pub drops_at : ℕ → List Member → Option (List (Option Dropped))
+drops_at a members = drops_in (at_address a members)
 
 -- ---- what is sent, and to whom
 
@@ -116,12 +132,17 @@ push_turns p receivers =
 abbrev pub succeeded : ℕ → Row
 succeeded a = record { address = a; index = 0; phase = 8; update_status = 0; transfer_status = 0; progress = 100 }
 
--- in push all receivers have succeeded after so many turns, and from then on
+-- all receivers have succeeded, and none was dropped
+pub record Completed (u : ℕ) (to : List ℕ) (members : List Member) : Type 0 where
+  pub rows : rows_at u members ≡ Some (map succeeded to)
+  pub drops : drops_at u members ≡ Some (map (λ a. None) to)
+
+-- in push this is so after so many turns, and from then on
 abbrev pub PushCompletes : Type 0
 PushCompletes =
     (plan : Plan) (image : List ℕ) (to : List ℕ) (members : List Member) (from : CanBegin plan image to members)
     → plan.sending.mode ≡ 1 → (n : ℕ) → push_turns plan.sending (length to) ≤ n
-    → rows_at from.config.address (settle n members) ≡ Some (map succeeded to)
+    → Completed from.config.address to (settle n members)
 
 -- three receivers and 64 KiB in 16 blocks of 21 chunks, to a group: 71 turns
 abbrev pub plan_64 : (version : ℕ) → List ℕ → Plan
