@@ -7,3 +7,4 @@ pub mod Chunks
 pub mod Worked
 pub mod WorkedInitiator
 pub mod Fields
+pub mod Gone

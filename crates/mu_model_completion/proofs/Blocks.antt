@@ -38,7 +38,7 @@ pub record Tiles : Type 0 where
   pub chunks_within : ChunksAreThoseWithin
   pub chunk_long : ChunkHasItsLength
 
-module _ (fields : FieldsAreRead) (tiles : Tiles) (p : Sending) (meta : Meta) (image : List ℕ) (u blocks : ℕ) (good : Good p blocks) (most : ℕ) (few : 3 * most < 99)
+module _ (fields : FieldsAreRead) (tiles : Tiles) (p : Sending) (meta : Meta) (image : List ℕ) (u blocks : ℕ) (good : Good p blocks) (most : ℕ) (few : 4 * most < 99)
     (whole : length image ≡ p.size) (chunk_some : 0 < p.chunk) where
   -- the blocks of the image, and the chunks of a block
   abbrev pub blk : ℕ → List ℕ
@@ -168,11 +168,101 @@ module _ (fields : FieldsAreRead) (tiles : Tiles) (p : Sending) (meta : Meta) (i
     counts = λ c. refl;
   }
 
+  -- ---- when all blocks are held
+
+  pub image_joined : (b : ℕ) → b ≡ suc blocks → joined (held_of b 0) ≡ image
+  image_joined b e =
+      let count : block_count (length image) p.log ≡ b = ap (λ m. block_count m p.log) whole ∙ (good.total ∙ sym e) in
+      all_joined blk b 0 ∙ (ap (λ m. concat (map blk (range_with_len 0 m))) (sym count) ∙ tiles.blocks_joined image p.log)
+
+  -- verified
+  pub record IsVerified (held : Slots) (last : Option LastBlock) (x : Pair) : Type 0 where
+    pub capacity : ℕ
+    pub active : Image
+    pub images : List Image
+    pub offer : Offer p meta image capacity active
+    pub count : ℕ
+    pub fresh : ℕ
+    pub heard : ℕ
+    pub n_is : x.n ≡ sealed_in p meta image capacity active images offer u 0 0 Verified held last count fresh heard x.moment
+
+  -- all is there: verified, or at first not yet
+  abbrev pub Sealing : Slots → Option LastBlock → ℕ → Pair → Type 0
+  Sealing held last zero x = ((a : ℕ) × Runs fields p meta image u blocks good most few held last a x) ⊎ IsVerified held last x
+  Sealing held last (suc j) x = IsVerified held last x
+
+  module _ (v : Client) (x : Pair) (held : Slots) (last : Option LastBlock) where
+    verified_passes : (h : IsVerified held last x) → Does (passes x.n (x.moment + 100)) (sealed_in p meta image h.capacity h.active h.images h.offer u 0 0 Verified held last h.count h.fresh h.heard (x.moment + 100)) []
+    verified_passes h =
+        subst (λ s. Does (passes s (x.moment + 100)) (sealed_in p meta image h.capacity h.active h.images h.offer u 0 0 Verified held last h.count h.fresh h.heard (x.moment + 100)) []) (sym h.n_is)
+        (verified_time p meta image h.capacity h.active h.images h.offer u 0 0 held last h.count h.fresh h.heard x.moment (x.moment + 100) (omega arith))
+
+    pub verified_later : IsVerified held last x → IsVerified held last (pair_time v u x) × ((pair_time v u x).r ≡ x.r)
+    verified_later h = (
+      record {
+        capacity = h.capacity;
+        active = h.active;
+        images = h.images;
+        offer = h.offer;
+        count = h.count;
+        fresh = h.fresh;
+        heard = h.heard;
+        n_is = time_node v u x _ (verified_passes h);
+      },
+      time_receiver v u x _ (verified_passes h),
+    )
+
+    becomes_verified : (a : ℕ) → is_full held ≡ true → joined held ≡ image → (h : Runs fields p meta image u blocks good most few held last a x)
+        → Does (passes x.n (x.moment + 100)) (sealed_in p meta image h.capacity h.active h.images h.offer u 0 0 Verified held last (h.count + 1) (fresh_after false h.fresh) h.heard (x.moment + 100)) []
+    becomes_verified a all is h =
+        subst (λ s. Does (passes s (x.moment + 100)) (sealed_in p meta image h.capacity h.active h.images h.offer u 0 0 Verified held last (h.count + 1) (fresh_after false h.fresh) h.heard (x.moment + 100)) []) (sym h.n_is)
+        (verifies p meta image h.capacity h.active h.images h.offer u 0 0 held last h.count h.fresh h.heard x.moment (x.moment + 100) all (ap (λ octets. is_fit octets meta) is ∙ h.offer.fit) (omega arith))
+
+    seals : (a : ℕ) → is_full held ≡ true → joined held ≡ image → Runs fields p meta image u blocks good most few held last a x → IsVerified held last (pair_time v u x) × ((pair_time v u x).r ≡ x.r)
+    seals a all is h = (
+      record {
+        capacity = h.capacity;
+        active = h.active;
+        images = h.images;
+        offer = h.offer;
+        count = h.count + 1;
+        fresh = fresh_after false h.fresh;
+        heard = h.heard;
+        n_is = time_node v u x _ (becomes_verified a all is h);
+      },
+      time_receiver v u x _ (becomes_verified a all is h),
+    )
+
+    pub sealing_later : (j : ℕ) → is_full held ≡ true → joined held ≡ image → Sealing held last j x → IsVerified held last (pair_time v u x) × ((pair_time v u x).r ≡ x.r)
+    sealing_later zero all is (inl h) = seals h.0 all is h.1
+    sealing_later zero all is (inr h) = verified_later h
+    sealing_later (suc j) all is h = verified_later h
+
   -- ---- 6 chunks
+
+  -- it holds the block, with n blocks missing: with none it is verified, or will be
+  abbrev pub HasBlock : (b n a : ℕ) → Pair → Type 0
+  HasBlock b zero a x = Sealing (held_of (suc b) 0) (Some (last_of b)) 0 x
+  HasBlock b (suc n) a x = Runs fields p meta image u blocks good most few (held_of (suc b) (suc n)) (Some (last_of b)) a x
+
+  has_now : (b n a : ℕ) (x : Pair) → Runs fields p meta image u blocks good most few (held_of (suc b) n) (Some (last_of b)) a x → HasBlock b n a x
+  has_now b zero a x h = inl (a, h)
+  has_now b (suc n) a x h = h
+
+  has_longer : (b n a c : ℕ) (x : Pair) → a ≤ c → HasBlock b n a x → HasBlock b n c x
+  has_longer b zero a c x le h = h
+  has_longer b (suc n) a c x le h = runs_longer fields p meta image u blocks good most few (held_of (suc b) (suc n)) (Some (last_of b)) a c x le h
+
+  -- time at a node that holds it
+  pub has_later : (v : Client) (x : Pair) (b n a : ℕ) → b + suc n ≡ suc blocks → a < 99 → HasBlock b n a x → HasBlock b n (suc a) (pair_time v u x) × ((pair_time v u x).r ≡ x.r)
+  has_later v x b zero a sum lt h =
+      let t = sealing_later v x (held_of (suc b) 0) (Some (last_of b)) 0 (full blk (suc b) 0) (image_joined (suc b) (omega (arith, sum))) h in
+      (inr t.0, t.1)
+  has_later v x b (suc n) a sum lt h = runs_later fields p meta image u blocks good most few v x (held_of (suc b) (suc n)) (Some (last_of b)) a (not_full blk (suc b) 0 n) lt h
 
   -- while chunks are missing it is in the block; then it holds the block
   abbrev pub Chunked : ℕ → ℕ → ℕ → ℕ → ℕ → Pair → Type 0
-  Chunked b n k zero a x = Runs fields p meta image u blocks good most few (held_of (suc b) n) (Some (last_of b)) a x
+  Chunked b n k zero a x = HasBlock b n a x
   Chunked b n k (suc rem) a x = InBlock b n k (suc rem) a x
 
   in_block_longer : (b n k rem a c : ℕ) (x : Pair) → a ≤ c → InBlock b n k rem a x → InBlock b n k rem c x
@@ -190,7 +280,7 @@ module _ (fields : FieldsAreRead) (tiles : Tiles) (p : Sending) (meta : Meta) (i
   }
 
   pub chunked_longer : (b n k rem a c : ℕ) (x : Pair) → a ≤ c → Chunked b n k rem a x → Chunked b n k rem c x
-  chunked_longer b n k zero a c x le h = runs_longer fields p meta image u blocks good most few (held_of (suc b) n) (Some (last_of b)) a c x le h
+  chunked_longer b n k zero a c x le h = has_longer b n a c x le h
   chunked_longer b n k (suc rem) a c x le h = in_block_longer b n k (suc rem) a c x le h
 
   abbrev pub chunk_request : ℕ → ℕ → Request
@@ -269,78 +359,8 @@ module _ (fields : FieldsAreRead) (tiles : Tiles) (p : Sending) (meta : Meta) (i
     pub chunk_taken : (rem : ℕ) → k + suc rem ≡ suc c → Chunked b n k (suc rem) a x
         → Chunked b n (suc k) rem 0 (answered_by (view p meta (Chunks b)) u x (asks x.n u (chunk_request b k) x.moment))
         × ((answered_by (view p meta (Chunks b)) u x (asks x.n u (chunk_request b k) x.moment)).r ≡ x.r)
-    chunk_taken zero sum h = (the_last (omega (arith, sum)) h, ap (λ replies. tells (view p meta (Chunks b)) u (map (replied_by x.config.address) replies) x.r) (takes_last (omega (arith, sum)) h).says)
+    chunk_taken zero sum h = (has_now b n 0 _ (the_last (omega (arith, sum)) h), ap (λ replies. tells (view p meta (Chunks b)) u (map (replied_by x.config.address) replies) x.r) (takes_last (omega (arith, sum)) h).says)
     chunk_taken (suc rem) sum h = (one_more rem h, ap (λ replies. tells (view p meta (Chunks b)) u (map (replied_by x.config.address) replies) x.r) (takes_more rem h).says)
-
-  -- ---- when all blocks are held
-
-  pub image_joined : (b : ℕ) → b ≡ suc blocks → joined (held_of b 0) ≡ image
-  image_joined b e =
-      let count : block_count (length image) p.log ≡ b = ap (λ m. block_count m p.log) whole ∙ (good.total ∙ sym e) in
-      all_joined blk b 0 ∙ (ap (λ m. concat (map blk (range_with_len 0 m))) (sym count) ∙ tiles.blocks_joined image p.log)
-
-  -- verified
-  pub record IsVerified (held : Slots) (last : Option LastBlock) (x : Pair) : Type 0 where
-    pub capacity : ℕ
-    pub active : Image
-    pub images : List Image
-    pub offer : Offer p meta image capacity active
-    pub count : ℕ
-    pub fresh : ℕ
-    pub heard : ℕ
-    pub n_is : x.n ≡ sealed_in p meta image capacity active images offer u 0 0 Verified held last count fresh heard x.moment
-
-  -- all is there: verified, or at first not yet
-  abbrev pub Sealing : Slots → Option LastBlock → ℕ → Pair → Type 0
-  Sealing held last zero x = ((a : ℕ) × Runs fields p meta image u blocks good most few held last a x) ⊎ IsVerified held last x
-  Sealing held last (suc j) x = IsVerified held last x
-
-  module _ (v : Client) (x : Pair) (held : Slots) (last : Option LastBlock) where
-    verified_passes : (h : IsVerified held last x) → Does (passes x.n (x.moment + 100)) (sealed_in p meta image h.capacity h.active h.images h.offer u 0 0 Verified held last h.count h.fresh h.heard (x.moment + 100)) []
-    verified_passes h =
-        subst (λ s. Does (passes s (x.moment + 100)) (sealed_in p meta image h.capacity h.active h.images h.offer u 0 0 Verified held last h.count h.fresh h.heard (x.moment + 100)) []) (sym h.n_is)
-        (verified_time p meta image h.capacity h.active h.images h.offer u 0 0 held last h.count h.fresh h.heard x.moment (x.moment + 100) (omega arith))
-
-    pub verified_later : IsVerified held last x → IsVerified held last (pair_time v u x) × ((pair_time v u x).r ≡ x.r)
-    verified_later h = (
-      record {
-        capacity = h.capacity;
-        active = h.active;
-        images = h.images;
-        offer = h.offer;
-        count = h.count;
-        fresh = h.fresh;
-        heard = h.heard;
-        n_is = time_node v u x _ (verified_passes h);
-      },
-      time_receiver v u x _ (verified_passes h),
-    )
-
-    becomes_verified : (a : ℕ) → is_full held ≡ true → joined held ≡ image → (h : Runs fields p meta image u blocks good most few held last a x)
-        → Does (passes x.n (x.moment + 100)) (sealed_in p meta image h.capacity h.active h.images h.offer u 0 0 Verified held last (h.count + 1) (fresh_after false h.fresh) h.heard (x.moment + 100)) []
-    becomes_verified a all is h =
-        subst (λ s. Does (passes s (x.moment + 100)) (sealed_in p meta image h.capacity h.active h.images h.offer u 0 0 Verified held last (h.count + 1) (fresh_after false h.fresh) h.heard (x.moment + 100)) []) (sym h.n_is)
-        (verifies p meta image h.capacity h.active h.images h.offer u 0 0 held last h.count h.fresh h.heard x.moment (x.moment + 100) all (ap (λ octets. is_fit octets meta) is ∙ h.offer.fit) (omega arith))
-
-    seals : (a : ℕ) → is_full held ≡ true → joined held ≡ image → Runs fields p meta image u blocks good most few held last a x → IsVerified held last (pair_time v u x) × ((pair_time v u x).r ≡ x.r)
-    seals a all is h = (
-      record {
-        capacity = h.capacity;
-        active = h.active;
-        images = h.images;
-        offer = h.offer;
-        count = h.count + 1;
-        fresh = fresh_after false h.fresh;
-        heard = h.heard;
-        n_is = time_node v u x _ (becomes_verified a all is h);
-      },
-      time_receiver v u x _ (becomes_verified a all is h),
-    )
-
-    pub sealing_later : (j : ℕ) → is_full held ≡ true → joined held ≡ image → Sealing held last j x → IsVerified held last (pair_time v u x) × ((pair_time v u x).r ≡ x.r)
-    sealing_later zero all is (inl h) = seals h.0 all is h.1
-    sealing_later zero all is (inr h) = verified_later h
-    sealing_later (suc j) all is h = verified_later h
 
   -- ---- 7 get
 
@@ -350,7 +370,7 @@ module _ (fields : FieldsAreRead) (tiles : Tiles) (p : Sending) (meta : Meta) (i
   After base b (suc n) j x = Runs fields p meta image u blocks good most few (held_of (suc b) (suc n)) (Some (last_of b)) (base + j) x
 
   abbrev pub GetW : ℕ → ℕ → ℕ → ℕ → Pair → Type 0
-  GetW b n c j x = Row 2 (lacking_from b (suc n)) (every_number (suc c)) true x × After most b n j x
+  GetW b n c j x = Row 2 (lacking_from b (suc n)) (every_number (suc c)) true x × After (3 * most) b n j x
 
   abbrev pub GetD : ℕ → ℕ → ℕ → ℕ → Pair → Type 0
   GetD b n c j x = Row 2 (lacking_from (suc b) n) (no_number (suc c)) false x × After 0 b n j x
@@ -417,7 +437,7 @@ module _ (fields : FieldsAreRead) (tiles : Tiles) (p : Sending) (meta : Meta) (i
 
     pub get_answered : (n j : ℕ) → GetW b n c (suc j) x → GetD b n c (suc j) (answered_by (view p meta (Get b)) u x (asks x.n u (OfBlob BlockGet) x.moment))
     get_answered zero j w = get_last j w.0 w.1
-    get_answered (suc n) j w = get_more n (suc j) w.0 (most + suc j) w.1
+    get_answered (suc n) j w = get_more n (suc j) w.0 (3 * most + suc j) w.1
 
   pub get_asking : (b n c : ℕ) → chunk_total p b ≡ suc c → b + suc n ≡ suc blocks → Asking p meta u (Get b) (OfBlob BlockGet) (GetW b n c) (GetD b n c) most
   get_asking b n c total sum = record {
@@ -425,7 +445,7 @@ module _ (fields : FieldsAreRead) (tiles : Tiles) (p : Sending) (meta : Meta) (i
     is_done = λ j x w. row_pending fields p meta image u blocks good most few 2 (lacking_from (suc b) n) (no_number (suc c)) false x w.0;
     place = λ j x w. row_place 2 (lacking_from b (suc n)) (every_number (suc c)) true x w.0;
     message = λ j x w. refl;
-    time_waits = λ j x lt w. (let t = after_later (view p meta (Get b)) x most b n j sum (omega (arith, lt, few)) w.1 in
+    time_waits = λ j x lt w. (let t = after_later (view p meta (Get b)) x (3 * most) b n j sum (omega (arith, lt, few)) w.1 in
         ((row_later fields p meta image u blocks good most few (view p meta (Get b)) x 2 (lacking_from b (suc n)) (every_number (suc c)) true t.1 w.0, t.0), t.1));
     time_done = λ j x lt w. (let t = after_later (view p meta (Get b)) x 0 b n j sum (omega (arith, lt, few)) w.1 in
         ((row_later fields p meta image u blocks good most few (view p meta (Get b)) x 2 (lacking_from (suc b) n) (no_number (suc c)) false t.1 w.0, t.0), t.1));

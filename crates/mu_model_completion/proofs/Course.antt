@@ -21,7 +21,7 @@ use Rattle.mu_model_completion.proofs.First.{Good, Row, Idle, Taken, CheckW, Che
 use Rattle.mu_model_completion.proofs.Blocks.{Tiles}
 
 module _ (laws : KeepsPlan) (fields : FieldsAreRead) (tiles : Tiles) (p : Sending) (meta : Meta) (config : NodeConfig) (image : List ℕ) (blocks : ℕ) (good : Good p blocks)
-    (whole : length image ≡ p.size) (chunk_some : 0 < p.chunk) (cs : List NodeConfig) (apart : Apart cs) (some : 1 ≤ length cs) (q : ℕ) (few : 3 * q < 99) (fits : length cs ≤ 16 * q) (q_some : 1 ≤ q) where
+    (whole : length image ≡ p.size) (chunk_some : 0 < p.chunk) (cs : List NodeConfig) (apart : Apart cs) (some : 1 ≤ length cs) (q : ℕ) (few : 4 * q < 99) (fits : length cs ≤ 16 * q) (q_some : 1 ≤ q) where
   abbrev u : ℕ
   u = config.address
 

@@ -1,39 +1,39 @@
 -- The end of an update in push: verifying, applying, confirming, and all turns after it.
-use Rattle.std.proofs.Common.{◌≡◌, ◌⊎◌, inl, inr, ◌<◌, ◌≤◌, ◌+◌, ◌*◌, ℕ, zero, suc, List, [], ◌∷◌, refl, ap, ◌∙◌, subst, true, false, Bool, Option, Some, arith, map, max, length}
+use Rattle.std.proofs.Common.{◌≡◌, ◌⊎◌, inl, inr, ◌<◌, ◌≤◌, ◌+◌, ◌*◌, ℕ, zero, suc, List, [], ◌∷◌, refl, ap, ◌∙◌, subst, true, false, Bool, Option, Some, arith, map, max, length, take, drop}
 use Rattle.std.specs.Prelude.{◌||◌, not, if◌then◌else◌}
-use Rattle.std.specs.List.{list_any, range_with_len, AllByRecursion}
+use Rattle.std.specs.List.{list_any, AllByRecursion}
 use Rattle.mu_model_image.specs.declared.Meta.{Meta}
-use Rattle.mu_model_wire.specs.Reports.{every_number, no_number}
+use Rattle.mu_model_wire.specs.Reports.{no_number}
 use Rattle.mu_model_node.specs.declared.NodeConfig.{NodeConfig}
 use Rattle.mu_model_node.specs.declared.LastBlock.{LastBlock}
 use Rattle.mu_model_node.specs.NodeMessages.{OfUpdate}
 use Rattle.mu_model_node.specs.UpdateMessages.{UpdateGet, UpdateApply, InformationGet}
 use Rattle.mu_model_node.specs.Slots.{Slots, is_full, joined}
 use Rattle.mu_model_client.specs.declared.Sending.{Sending}
-use Rattle.mu_model_client.specs.Client.{Client, Receiver, is_active, misses_chunks, misses_block, Sends, Update, Place, Before, At, Ended, Applying, Step, Check, Transfer, Chunks, Get, Verify, Apply, Confirm, block_total, chunk_total}
-use Rattle.mu_model_client.specs.Lists.{chunk_items, missing_of}
+use Rattle.mu_model_client.specs.Client.{Client, Receiver, is_active, misses_chunks, misses_block, Update, Place, Before, At, Ended, Applying, Step, Check, Transfer, Chunks, Get, Verify, Apply, Confirm, block_total, chunk_total}
 use Rattle.mu_model_client.specs.Due as d
 use Rattle.mu_model_client.specs.Due.{Due, due, Go}
 use Rattle.mu_model_client_laws.specs.Laws.{KeepsPlan, FieldsAreRead}
 use Rattle.mu_model_completion.specs.Turn.{Member, turn, settle}
 use Rattle.mu_model_completion.proofs.Pairs.{Pair, receiver_in, pair_time, turned}
 use Rattle.mu_model_completion.proofs.Receivers.{none_some}
-use Rattle.mu_model_completion.proofs.Stations.{Within, and_then, so, client_at, Station, begins}
+use Rattle.mu_model_completion.proofs.Stations.{Within, and_then, so, client_at, Station, begins, first_items, turn_in}
 use Rattle.mu_model_completion.proofs.Asking.{Apart, configs}
 use Rattle.mu_model_completion.proofs.First.{Good, Row, Runs, TransferD}
 use Rattle.mu_model_completion.proofs.Pieces.{lacking_from, none_missed, find_none, full}
 use Rattle.mu_model_completion.proofs.Blocks.{Tiles, held_of, last_of, blk, IsVerified, Sealing, image_joined}
 use Rattle.mu_model_completion.proofs.Last.{VerifyW, VerifyD, verify_asking, IsActive, Applies, ApplyW, ApplyD, apply_asking, ConfirmW, ConfirmD, confirm_asking, applies_later}
-use Rattle.mu_model_completion.proofs.Sixteens.{Reaches}
+use Rattle.mu_model_completion.proofs.Chunked.{Beginning, ChunksSent}
 use Rattle.mu_model_completion.proofs.Course.{Reached, Answered, go_step, next_leads, row_is, row_begun, First, four, nobody_pending}
 use Rattle.mu_model_completion.proofs.Middle.{AllHeld, Ended_blocks, all_blocks, first_between, reached_as}
 
 module _ (laws : KeepsPlan) (fields : FieldsAreRead) (tiles : Tiles) (p : Sending) (meta : Meta) (config : NodeConfig) (image : List ℕ) (blocks : ℕ) (good : Good p blocks)
-    (whole : length image ≡ p.size) (chunk_some : 0 < p.chunk) (cs : List NodeConfig) (apart : Apart cs) (some : 1 ≤ length cs) (q : ℕ) (few : 3 * q < 99) (fits : length cs ≤ 16 * q) (q_some : 1 ≤ q)
-    (to mc : ℕ) (reached : AllByRecursion (Reaches to) cs)
-    (counts : (b : ℕ) → b < suc blocks → (c : ℕ) × (chunk_total p b ≡ suc c) × (suc c ≤ 16 * suc mc))
-    (lists : (b c : ℕ) → chunk_total p b ≡ suc c → (bs : List Bool) (ps : List Pair) → AllByRecursion (Row 2 bs (every_number (suc c)) true) ps → configs ps ≡ cs
-    → chunk_items p b missing_of (map receiver_in ps) ≡ map (λ i. Sends to b i) (range_with_len 0 (suc c))) where
+    (whole : length image ≡ p.size) (chunk_some : 0 < p.chunk) (cs : List NodeConfig) (apart : Apart cs) (some : 1 ≤ length cs) (q : ℕ) (few : 4 * q < 99) (fits : length cs ≤ 16 * q) (q_some : 1 ≤ q)
+    (mc : ℕ) (counts : (b : ℕ) → b < suc blocks → (c : ℕ) × (chunk_total p b ≡ suc c))
+    (sends : (b n c : ℕ) (total : chunk_total p b ≡ suc c) → b + suc n ≡ suc blocks → (bs : List Pair) (ys : List Member)
+    → Station laws p meta config image (At (Chunks b)) (drop 16 (first_items laws p meta config image (Chunks b) bs)) (map (turn_in laws p meta config image (Chunks b) (take 16 (first_items laws p meta config image (Chunks b) bs))) bs) ys
+    → AllByRecursion (Beginning laws fields tiles p meta config image blocks good q few whole chunk_some b n c total) bs → configs bs ≡ cs
+    → Within mc (ChunksSent laws fields tiles p meta config image blocks good q few whole chunk_some b n c total cs) ys) where
   abbrev u : ℕ
   u = config.address
 
@@ -99,7 +99,7 @@ module _ (laws : KeepsPlan) (fields : FieldsAreRead) (tiles : Tiles) (p : Sendin
     applies_at step x (inr h) = inr (record { capacity = h.capacity; images = h.images; count = h.count; fresh = h.fresh; session = h.session; n_is = h.n_is })
 
     abbrev Held : Pair → Type 0
-    Held x = AllHeld laws fields tiles p meta config image blocks good whole chunk_some cs apart some q few fits q_some to mc reached counts lists c x
+    Held x = AllHeld laws fields tiles p meta config image blocks good whole chunk_some cs apart some q few fits q_some mc counts sends c x
 
     -- ---- 8
 
@@ -156,7 +156,7 @@ module _ (laws : KeepsPlan) (fields : FieldsAreRead) (tiles : Tiles) (p : Sendin
         and_then q (q + q) (At_ (At Verify) (Done VD)) (At_ (At Confirm) Final) xs (verified b xs r)
         (λ ys s. and_then q q (At_ (At Apply) (Done AD)) (At_ (At Confirm) Final) ys (applied ys s)
         (λ zs t. so q (At_ (At Confirm) (Done CD)) (At_ (At Confirm) Final) zs
-        (reached_as laws fields tiles p meta config image blocks good whole chunk_some cs apart some q few fits q_some to mc reached counts lists (At Confirm) (Done CD) Final (λ x h. h.2)) (confirmed zs t)))
+        (reached_as laws fields tiles p meta config image blocks good whole chunk_some cs apart some q few fits q_some mc counts sends (At Confirm) (Done CD) Final (λ x h. h.2)) (confirmed zs t)))
 
     -- ---- and from then on
 
@@ -243,10 +243,10 @@ module _ (laws : KeepsPlan) (fields : FieldsAreRead) (tiles : Tiles) (p : Sendin
   course xs r =
       and_then (q + (q + (q + q))) (suc blocks * (q + (suc mc + q)) + (q + (q + q))) (At_ (At Transfer) (Done (TransferD fields p meta image u blocks good q few))) SomeOver xs
       (four laws fields tiles p meta config image blocks good whole chunk_some cs apart some q few fits q_some xs r)
-      (λ ys s. and_then (suc blocks * (q + (suc mc + q))) (q + (q + q)) (Ended_blocks laws fields tiles p meta config image blocks good whole chunk_some cs apart some q few fits q_some to mc reached counts lists) SomeOver ys
-      (all_blocks laws fields tiles p meta config image blocks good whole chunk_some cs apart some q few fits q_some to mc reached counts lists blocks 0 Transfer tt (omega arith) ys
-      (reached_as laws fields tiles p meta config image blocks good whole chunk_some cs apart some q few fits q_some to mc reached counts lists (At Transfer) _ _
-      (first_between laws fields tiles p meta config image blocks good whole chunk_some cs apart some q few fits q_some to mc reached counts lists) ys s))
+      (λ ys s. and_then (suc blocks * (q + (suc mc + q))) (q + (q + q)) (Ended_blocks laws fields tiles p meta config image blocks good whole chunk_some cs apart some q few fits q_some mc counts sends) SomeOver ys
+      (all_blocks laws fields tiles p meta config image blocks good whole chunk_some cs apart some q few fits q_some mc counts sends blocks 0 Transfer tt (omega arith) ys
+      (reached_as laws fields tiles p meta config image blocks good whole chunk_some cs apart some q few fits q_some mc counts sends (At Transfer) _ _
+      (first_between laws fields tiles p meta config image blocks good whole chunk_some cs apart some q few fits q_some mc counts sends) ys s))
       (λ zs t. so (q + (q + q)) (At_ (At Confirm) (Final t.c)) SomeOver zs
       (λ ws o. record { c = t.c; over = record { place = At Confirm; at_end = inl refl; qs = o.qs; station = o.station; all = o.all; same = o.same } })
       (last_steps t.c t.b zs t.held_all)))

@@ -65,7 +65,7 @@ pub record Good (p : Sending) (blocks : ℕ) : Type 0 where
   pub long : (nat_lt 376 p.chunk || nat_lt 2048 (full_chunks p)) ≡ false
   pub total : block_total p ≡ suc blocks
 
-module _ (fields : FieldsAreRead) (p : Sending) (meta : Meta) (image : List ℕ) (u blocks : ℕ) (good : Good p blocks) (most : ℕ) (few : 3 * most < 99) where
+module _ (fields : FieldsAreRead) (p : Sending) (meta : Meta) (image : List ℕ) (u blocks : ℕ) (good : Good p blocks) (most : ℕ) (few : 4 * most < 99) where
   -- a node without a job
   pub record Idle (x : Pair) : Type 0 where
     pub capacity : ℕ

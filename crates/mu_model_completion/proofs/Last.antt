@@ -19,7 +19,7 @@ use Rattle.mu_model_completion.proofs.Asking.{Asking}
 use Rattle.mu_model_completion.proofs.First.{Good, Row, row_answered, row_pending, row_index, row_later, time_node, time_receiver, row_place}
 use Rattle.mu_model_completion.proofs.Blocks.{Tiles, IsVerified, Sealing, sealing_later}
 
-module _ (fields : FieldsAreRead) (tiles : Tiles) (p : Sending) (meta : Meta) (image : List ℕ) (u blocks : ℕ) (good : Good p blocks) (most : ℕ) (few : 3 * most < 99)
+module _ (fields : FieldsAreRead) (tiles : Tiles) (p : Sending) (meta : Meta) (image : List ℕ) (u blocks : ℕ) (good : Good p blocks) (most : ℕ) (few : 4 * most < 99)
     (whole : length image ≡ p.size) (chunk_some : 0 < p.chunk) (held : Slots) (last : Option LastBlock) (all : is_full held ≡ true) (is : joined held ≡ image) (bs cs : List Bool) where
   abbrev pub IsSealing : ℕ → Pair → Type 0
   IsSealing j x = Sealing fields tiles p meta image u blocks good most few whole chunk_some held last j x

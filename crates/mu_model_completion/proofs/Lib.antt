@@ -9,8 +9,12 @@ pub mod First
 pub mod Pieces
 pub mod Blocks
 pub mod Last
+pub mod Chunked
 pub mod Sixteens
+pub mod Alone
+pub mod Each
 pub mod Course
 pub mod Middle
 pub mod End
 pub mod Theorem
+pub mod SixtyFour

@@ -1,7 +1,7 @@
 -- The course of an update in push through its blocks.
-use Rattle.std.proofs.Common.{◌≡◌, inl, ◌<◌, ◌≤◌, ◌+◌, ◌*◌, ℕ, zero, suc, List, [], ◌∷◌, refl, sym, ap, ◌∙◌, subst, true, false, Bool, Option, Some, None, arith, map, length}
+use Rattle.std.proofs.Common.{◌≡◌, inl, inr, ◌<◌, ◌≤◌, ◌+◌, ◌*◌, ℕ, zero, suc, List, [], ◌∷◌, refl, sym, ap, ◌∙◌, subst, true, false, Bool, Option, Some, None, arith, map, length, take, drop}
 use Rattle.std.specs.Prelude.{◌||◌, not, if◌then◌else◌, find}
-use Rattle.std.specs.List.{list_any, range_with_len, AllByRecursion}
+use Rattle.std.specs.List.{list_any, AllByRecursion}
 use Rattle.mu_model_image.specs.declared.Meta.{Meta}
 use Rattle.mu_model_wire.specs.Reports.{has, every_number, no_number}
 use Rattle.mu_model_node.specs.declared.NodeConfig.{NodeConfig}
@@ -11,20 +11,19 @@ use Rattle.mu_model_node.specs.BlobMessages.{BlockGet}
 use Rattle.mu_model_node.specs.Slots.{Slots}
 use Rattle.mu_model_client.specs.declared.Sending.{Sending}
 use Rattle.mu_model_client.specs.Sets.{below, has_some}
-use Rattle.mu_model_client.specs.Client.{Client, Receiver, is_active, is_pending, misses_chunks, misses_block, Sends, Update, Place, At, Step, Check, Start, Information, Transfer, Block, Chunks, Pull, Get, Verify, Apply, Confirm, Cancel, block_total, chunk_total}
-use Rattle.mu_model_client.specs.Lists.{chunk_items, missing_of}
+use Rattle.mu_model_client.specs.Client.{Client, Receiver, is_active, is_pending, misses_chunks, misses_block, Update, Place, At, Step, Check, Start, Information, Transfer, Block, Chunks, Pull, Get, Verify, Apply, Confirm, Cancel, block_total, chunk_total}
 use Rattle.mu_model_client.specs.Due as d
 use Rattle.mu_model_client.specs.Due.{Go}
 use Rattle.mu_model_client_laws.specs.Laws.{KeepsPlan, FieldsAreRead}
 use Rattle.mu_model_completion.specs.Turn.{Member, turn}
 use Rattle.mu_model_completion.proofs.Pairs.{Pair, receiver_in}
 use Rattle.mu_model_completion.proofs.Receivers.{none_some}
-use Rattle.mu_model_completion.proofs.Stations.{Within, by_turn, and_then, more_room, so, begins, leads_on, first_items, turn_next}
+use Rattle.mu_model_completion.proofs.Stations.{Within, by_turn, and_then, more_room, so, Station, begins, leads_on, first_items, turn_in, turn_next}
 use Rattle.mu_model_completion.proofs.Asking.{Apart, configs}
 use Rattle.mu_model_completion.proofs.First.{Good, Row, Runs, TransferD, runs_longer}
 use Rattle.mu_model_completion.proofs.Pieces.{lacking_from, held_below, missed_at, find_least}
-use Rattle.mu_model_completion.proofs.Blocks.{Tiles, InBlock, held_of, last_of, BlockW, BlockD, block_request, block_asking, Chunked, chunked_longer, Sealing, After, GetW, GetD, get_asking}
-use Rattle.mu_model_completion.proofs.Sixteens.{Reaches, Chunking, begin_chunks}
+use Rattle.mu_model_completion.proofs.Blocks.{IsVerified, Tiles, InBlock, held_of, last_of, BlockW, BlockD, block_request, block_asking, Chunked, chunked_longer, Sealing, After, GetW, GetD, get_asking}
+use Rattle.mu_model_completion.proofs.Chunked.{Beginning, Chunking, ChunksSent}
 use Rattle.mu_model_completion.proofs.Course.{Reached, Answered, go_step, next_leads, row_is, row_begun, row_begun_by, some_active, all_begin, configs_length}
 
 -- the steps after which a block begins
@@ -34,11 +33,12 @@ EndsBlock (Get b) = Unit {0}
 EndsBlock _ = ⊥
 
 module _ (laws : KeepsPlan) (fields : FieldsAreRead) (tiles : Tiles) (p : Sending) (meta : Meta) (config : NodeConfig) (image : List ℕ) (blocks : ℕ) (good : Good p blocks)
-    (whole : length image ≡ p.size) (chunk_some : 0 < p.chunk) (cs : List NodeConfig) (apart : Apart cs) (some : 1 ≤ length cs) (q : ℕ) (few : 3 * q < 99) (fits : length cs ≤ 16 * q) (q_some : 1 ≤ q)
-    (to mc : ℕ) (reached : AllByRecursion (Reaches to) cs)
-    (counts : (b : ℕ) → b < suc blocks → (c : ℕ) × (chunk_total p b ≡ suc c) × (suc c ≤ 16 * suc mc))
-    (lists : (b c : ℕ) → chunk_total p b ≡ suc c → (bs : List Bool) (ps : List Pair) → AllByRecursion (Row 2 bs (every_number (suc c)) true) ps → configs ps ≡ cs
-    → chunk_items p b missing_of (map receiver_in ps) ≡ map (λ i. Sends to b i) (range_with_len 0 (suc c))) where
+    (whole : length image ≡ p.size) (chunk_some : 0 < p.chunk) (cs : List NodeConfig) (apart : Apart cs) (some : 1 ≤ length cs) (q : ℕ) (few : 4 * q < 99) (fits : length cs ≤ 16 * q) (q_some : 1 ≤ q)
+    (mc : ℕ) (counts : (b : ℕ) → b < suc blocks → (c : ℕ) × (chunk_total p b ≡ suc c))
+    (sends : (b n c : ℕ) (total : chunk_total p b ≡ suc c) → b + suc n ≡ suc blocks → (bs : List Pair) (ys : List Member)
+    → Station laws p meta config image (At (Chunks b)) (drop 16 (first_items laws p meta config image (Chunks b) bs)) (map (turn_in laws p meta config image (Chunks b) (take 16 (first_items laws p meta config image (Chunks b) bs))) bs) ys
+    → AllByRecursion (Beginning laws fields tiles p meta config image blocks good q few whole chunk_some b n c total) bs → configs bs ≡ cs
+    → Within mc (ChunksSent laws fields tiles p meta config image blocks good q few whole chunk_some b n c total cs) ys) where
   abbrev u : ℕ
   u = config.address
 
@@ -133,7 +133,7 @@ module _ (laws : KeepsPlan) (fields : FieldsAreRead) (tiles : Tiles) (p : Sendin
   pub runs_at : (step : Step) (hs : Slots) (before : Option LastBlock) (a : ℕ) (x : Pair) → Runs fields p meta image u blocks good q few hs before a x → Runs fields p meta image u blocks good q few hs before a (begins laws p meta config image step x)
   runs_at step hs before a x h = record { capacity = h.capacity; active = h.active; images = h.images; offer = h.offer; count = h.count; fresh = h.fresh; heard = h.heard; lately = h.lately; n_is = h.n_is }
 
-  module _ (b n c : ℕ) (sum : b + suc n ≡ suc blocks) (total : chunk_total p b ≡ suc c) (le_c : suc c ≤ 16 * suc mc) where
+  module _ (b n c : ℕ) (sum : b + suc n ≡ suc blocks) (total : chunk_total p b ≡ suc c) where
     abbrev BD : ℕ → Pair → Type 0
     BD j x = BlockD fields tiles p meta image u blocks good q few whole chunk_some b n c j x
 
@@ -153,13 +153,16 @@ module _ (laws : KeepsPlan) (fields : FieldsAreRead) (tiles : Tiles) (p : Sendin
     -- ---- its chunks
 
     abbrev IsChunking : ℕ → ℕ → Pair → Type 0
-    IsChunking k rem x = Chunking laws fields tiles p meta config image blocks good q few whole chunk_some to b n c total k rem x
+    IsChunking k rem x = Chunking laws fields tiles p meta config image blocks good q few whole chunk_some b n c total k rem x
 
     in_block_at : (step : Step) (a : ℕ) (x : Pair) → InBlock fields tiles p meta image u blocks good q few whole chunk_some b n 0 (suc c) a x
         → InBlock fields tiles p meta image u blocks good q few whole chunk_some b n 0 (suc c) a (begins laws p meta config image step x)
     in_block_at step a x h = record { capacity = h.capacity; active = h.active; images = h.images; offer = h.offer; count = h.count; fresh = h.fresh; heard = h.heard; last = h.last; lately = h.lately; n_is = h.n_is }
 
-    chunks_begin : (x : Pair) → Done BD x → IsChunking 0 (suc c) (begins laws p meta config image (Chunks b) x)
+    abbrev Begins : Pair → Type 0
+    Begins x = Beginning laws fields tiles p meta config image blocks good q few whole chunk_some b n c total x
+
+    chunks_begin : (x : Pair) → Done BD x → Begins (begins laws p meta config image (Chunks b) x)
     chunks_begin x h = (
       row_begun laws fields tiles p meta config image blocks good whole chunk_some cs apart some q few fits q_some (Chunks b) 2 (lacking_from b (suc n)) (every_number (suc c)) x h.2.0 refl,
       chunked_longer fields tiles p meta image u blocks good q few whole chunk_some b n 0 (suc c) h.0 q (begins laws p meta config image (Chunks b) x) h.1 (in_block_at (Chunks b) h.0 x h.2.1),
@@ -178,10 +181,6 @@ module _ (laws : KeepsPlan) (fields : FieldsAreRead) (tiles : Tiles) (p : Sendin
     begun_configs step [] = refl
     begun_configs step (x ∷ ps) = ap (λ zs. x.config ∷ zs) (begun_configs step ps)
 
-    only_rows : (ps : List Pair) → AllByRecursion (IsChunking 0 (suc c)) ps → AllByRecursion (Row 2 (lacking_from b (suc n)) (every_number (suc c)) true) ps
-    only_rows [] h = tt
-    only_rows (x ∷ ps) h = (h.0.0, only_rows ps h.1)
-
     chunked : (xs : List Member) → At_ (At (Block b)) (Done BD) xs → Within (suc mc) (At_ (At (Chunks b)) (IsChunking (suc c) 0)) xs
     chunked xs r =
         let bs : List Pair = map (begins laws p meta config image (Chunks b)) r.qs in
@@ -191,16 +190,14 @@ module _ (laws : KeepsPlan) (fields : FieldsAreRead) (tiles : Tiles) (p : Sendin
         (λ x k. row_is laws fields tiles p meta config image blocks good whole chunk_some cs apart some q few fits q_some 2 (lacking_from b (suc n)) (every_number (suc c)) false x k.2.0)
         (λ z. refl) (λ rs. refl) to_chunks r.qs r.all (omega (arith, long, counted, some)) in
         let same_b : configs bs ≡ cs = begun_configs (Chunks b) r.qs ∙ r.same in
-        let all_b : AllByRecursion (IsChunking 0 (suc c)) bs =
-        all_begin laws fields tiles p meta config image blocks good whole chunk_some cs apart some q few fits q_some (Done BD) (IsChunking 0 (suc c)) (Chunks b) chunks_begin r.qs r.all in
-        let list = lists b c total (lacking_from b (suc n)) bs (only_rows bs all_b) same_b in
+        let all_b : AllByRecursion Begins bs =
+        all_begin laws fields tiles p meta config image blocks good whole chunk_some cs apart some q few fits q_some (Done BD) Begins (Chunks b) chunks_begin r.qs r.all in
         let next = turn_next laws p meta config image (At (Block b)) r.qs xs r.station (Chunks b) leads in
-        let done = begin_chunks laws fields tiles p meta config image blocks good q few whole chunk_some to b n c total mc bs (turn xs) (first_items laws p meta config image (Chunks b) bs) list next
-        (subst (AllByRecursion (Reaches to)) (sym same_b) reached) all_b le_c in
+        let done = sends b n c total sum bs (turn xs) next all_b same_b in
         by_turn mc (At_ (At (Chunks b)) (IsChunking (suc c) 0)) xs (record {
           turns = done.turns;
           few = done.few;
-          then_is = (let f = done.then_is in record { qs = f.qs; station = f.station; all = f.all; same = f.same ∙ same_b });
+          then_is = (let f = done.then_is in record { qs = f.qs; station = f.station; all = f.all; same = f.same });
         })
 
     -- ---- what is asked after them
@@ -208,12 +205,17 @@ module _ (laws : KeepsPlan) (fields : FieldsAreRead) (tiles : Tiles) (p : Sendin
     abbrev GD : ℕ → Pair → Type 0
     GD j x = GetD fields tiles p meta image u blocks good q few whole chunk_some b n c j x
 
-    after_begins : (m : ℕ) (x : Pair) → Chunked fields tiles p meta image u blocks good q few whole chunk_some b m (suc c) 0 q x
-        → After fields tiles p meta image u blocks good q few whole chunk_some q b m 0 (begins laws p meta config image (Get b) x)
-    after_begins zero x h = inl (q, runs_at (Get b) (held (suc b) 0) (Some (last b)) q x h)
+    verified_at : (step : Step) (hs : Slots) (before : Option LastBlock) (x : Pair) → IsVerified fields tiles p meta image u blocks good q few whole chunk_some hs before x
+        → IsVerified fields tiles p meta image u blocks good q few whole chunk_some hs before (begins laws p meta config image step x)
+    verified_at step hs before x h = record { capacity = h.capacity; active = h.active; images = h.images; offer = h.offer; count = h.count; fresh = h.fresh; heard = h.heard; n_is = h.n_is }
+
+    after_begins : (m : ℕ) (x : Pair) → Chunked fields tiles p meta image u blocks good q few whole chunk_some b m (suc c) 0 (3 * q) x
+        → After fields tiles p meta image u blocks good q few whole chunk_some (3 * q) b m 0 (begins laws p meta config image (Get b) x)
+    after_begins zero x (inl h) = inl (h.0, runs_at (Get b) (held (suc b) 0) (Some (last b)) h.0 x h.1)
+    after_begins zero x (inr h) = inr (verified_at (Get b) (held (suc b) 0) (Some (last b)) x h)
     after_begins (suc m) x h =
-        runs_longer fields p meta image u blocks good q few (held (suc b) (suc m)) (Some (last b)) q (q + 0) (begins laws p meta config image (Get b) x) (omega arith)
-        (runs_at (Get b) (held (suc b) (suc m)) (Some (last b)) q x h)
+        runs_longer fields p meta image u blocks good q few (held (suc b) (suc m)) (Some (last b)) (3 * q) (3 * q + 0) (begins laws p meta config image (Get b) x) (omega arith)
+        (runs_at (Get b) (held (suc b) (suc m)) (Some (last b)) (3 * q) x h)
 
     get_begins : (x : Pair) → IsChunking (suc c) 0 x → GetW fields tiles p meta image u blocks good q few whole chunk_some b n c 0 (begins laws p meta config image (Get b) x)
     get_begins x h = (
@@ -267,13 +269,13 @@ module _ (laws : KeepsPlan) (fields : FieldsAreRead) (tiles : Tiles) (p : Sendin
       → Within (suc n * (q + (suc mc + q))) Ended_blocks xs
   all_blocks zero b s e sum xs r =
       let k = counts b (omega (arith, sum)) in
-      let one = one_block b 0 k.0 sum k.1 k.2 s e xs r in
+      let one = one_block b 0 k.0 sum k.1 s e xs r in
       more_room (q + (suc mc + q)) (1 * (q + (suc mc + q))) Ended_blocks xs (omega arith)
       (so (q + (suc mc + q)) (At_ (At (Get b)) (Done (GetD fields tiles p meta image u blocks good q few whole chunk_some b 0 k.0))) Ended_blocks xs
       (λ ys t. record { b = b; c = k.0; held_all = reached_as (At (Get b)) _ (AllHeld k.0) (to_all b k.0 (omega (arith, sum))) ys t }) one)
   all_blocks (suc n) b s e sum xs r =
       let k = counts b (omega (arith, sum)) in
-      let one = one_block b (suc n) k.0 sum k.1 k.2 s e xs r in
+      let one = one_block b (suc n) k.0 sum k.1 s e xs r in
       let both = and_then (q + (suc mc + q)) (suc n * (q + (suc mc + q))) (At_ (At (Get b)) (Done (GetD fields tiles p meta image u blocks good q few whole chunk_some b (suc n) k.0))) Ended_blocks xs one
       (λ ys t. all_blocks n (suc b) (Get b) tt (omega (arith, sum)) ys (reached_as (At (Get b)) _ (Between (suc b) (suc n)) (to_between b n k.0) ys t)) in
       more_room ((q + (suc mc + q)) + suc n * (q + (suc mc + q))) (suc (suc n) * (q + (suc mc + q))) Ended_blocks xs (omega arith) both

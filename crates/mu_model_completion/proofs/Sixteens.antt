@@ -17,7 +17,8 @@ use Rattle.mu_model_completion.proofs.Stations.{Within, at_once, by_turn, Statio
 use Rattle.mu_model_completion.proofs.Asking.{configs}
 use Rattle.mu_model_completion.proofs.First.{Good, Row}
 use Rattle.mu_model_completion.proofs.Pieces.{lacking_from}
-use Rattle.mu_model_completion.proofs.Blocks.{Tiles, chunk_request, Chunked, chunked_longer, chunk_taken, in_block_later}
+use Rattle.mu_model_completion.proofs.Chunked.{IsChunked as Pieces_of, Chunking as Chunking_of, ChunksSent as Sent_of}
+use Rattle.mu_model_completion.proofs.Blocks.{Tiles, chunk_request, chunked_longer, chunk_taken, in_block_later}
 
 -- ---- ranges
 
@@ -38,17 +39,19 @@ drop_range g (suc m) (suc n) i =
 abbrev pub Reaches : ℕ → NodeConfig → Type 0
 Reaches to c = ((to == c.address) || (not (c.group == 0) && (to == c.group))) ≡ true
 
-module _ (laws : KeepsPlan) (fields : FieldsAreRead) (tiles : Tiles) (p : Sending) (meta : Meta) (config : NodeConfig) (image : List ℕ) (blocks : ℕ) (good : Good p blocks) (most : ℕ) (few : 3 * most < 99)
+module _ (laws : KeepsPlan) (fields : FieldsAreRead) (tiles : Tiles) (p : Sending) (meta : Meta) (config : NodeConfig) (image : List ℕ) (blocks : ℕ) (good : Good p blocks) (most : ℕ) (few : 4 * most < 99)
     (whole : length image ≡ p.size) (chunk_some : 0 < p.chunk) (to b n c : ℕ) (total : chunk_total p b ≡ suc c) where
   abbrev u : ℕ
   u = config.address
 
-  abbrev IsChunked : ℕ → ℕ → ℕ → Pair → Type 0
-  IsChunked k rem a x = Chunked fields tiles p meta image u blocks good most few whole chunk_some b n k rem a x
+  abbrev pub IsChunked : ℕ → ℕ → ℕ → Pair → Type 0
+  IsChunked k rem a x = Pieces_of laws fields tiles p meta config image blocks good most few whole chunk_some b n c total k rem a x
 
-  -- k chunks have come, and rem haven't
-  abbrev pub Chunking : ℕ → ℕ → Pair → Type 0
-  Chunking k rem x = Row 2 (lacking_from b (suc n)) (every_number (suc c)) true x × IsChunked k rem most x
+  abbrev Chunking : ℕ → ℕ → Pair → Type 0
+  Chunking k rem x = Chunking_of laws fields tiles p meta config image blocks good most few whole chunk_some b n c total k rem x
+
+  abbrev ChunksSent : List NodeConfig → List Member → Type 0
+  ChunksSent cs xs = Sent_of laws fields tiles p meta config image blocks good most few whole chunk_some b n c total cs xs
 
   abbrev items_at : List Item → Pair → Pair
   items_at items x = pair_items (view p meta (Chunks b)) u (sent_all laws p meta config image items) x
@@ -66,13 +69,13 @@ module _ (laws : KeepsPlan) (fields : FieldsAreRead) (tiles : Tiles) (p : Sendin
       ap (λ z. pair_if (view p meta (Chunks b)) u (asked_by u (sent_for p image (Sends to b k))) x z) reached in
       (subst (IsChunked (suc k) rem 0) (sym e) t.0, ap (λ (y : Pair). y.r) e ∙ t.1)
 
-  record Row_of (k rem a : ℕ) (x y : Pair) : Type 0 where
-    node : IsChunked k rem a y
-    same : y.r ≡ x.r
-    place : y.config ≡ x.config
+  pub record Row_of (k rem a : ℕ) (x y : Pair) : Type 0 where
+    pub node : IsChunked k rem a y
+    pub same : y.r ≡ x.r
+    pub place : y.config ≡ x.config
 
   -- many chunks
-  in_a_row : (j k rem a : ℕ) (x : Pair) → Reaches to x.config → k + rem ≡ suc c → j ≤ rem → IsChunked k rem a x → Row_of (k + j) (rem - j) a x (items_at (chunks_from k j) x)
+  pub in_a_row : (j k rem a : ℕ) (x : Pair) → Reaches to x.config → k + rem ≡ suc c → j ≤ rem → IsChunked k rem a x → Row_of (k + j) (rem - j) a x (items_at (chunks_from k j) x)
   in_a_row zero k rem a x reached sum le h =
       let e : k ≡ k + 0 = omega arith in
       let f : rem ≡ rem - 0 = omega arith in
@@ -96,7 +99,7 @@ module _ (laws : KeepsPlan) (fields : FieldsAreRead) (tiles : Tiles) (p : Sendin
       }
 
   -- the first one is heard, so that the age is none
-  heard_now : (j k rem a : ℕ) (x : Pair) → Reaches to x.config → k + suc rem ≡ suc c → j ≤ rem → IsChunked k (suc rem) a x → Row_of (k + suc j) (suc rem - suc j) 0 x (items_at (chunks_from k (suc j)) x)
+  pub heard_now : (j k rem a : ℕ) (x : Pair) → Reaches to x.config → k + suc rem ≡ suc c → j ≤ rem → IsChunked k (suc rem) a x → Row_of (k + suc j) (suc rem - suc j) 0 x (items_at (chunks_from k (suc j)) x)
   heard_now j k rem a x reached sum le h =
       let y : Pair = pair_item (view p meta (Chunks b)) u (asked_by u (sent_for p image (Sends to b k))) x in
       let t = one k rem a x reached sum h in
@@ -121,12 +124,12 @@ module _ (laws : KeepsPlan) (fields : FieldsAreRead) (tiles : Tiles) (p : Sendin
   a_turn : (j k rem : ℕ) (x : Pair) → Reaches to x.config → k + suc rem ≡ suc c → j ≤ rem → Chunking k (suc rem) x
       → Chunking (k + suc j) (suc rem - suc j) (turned_pair k (suc j) x) × ((turned_pair k (suc j) x).config ≡ x.config)
   a_turn j k rem x reached sum le h =
-      let t = in_block_later fields tiles p meta image u blocks good most few whole chunk_some (view p meta (Chunks b)) x b n k (suc rem) most (omega (arith, few)) h.1 in
+      let t = in_block_later fields tiles p meta image u blocks good most few whole chunk_some (view p meta (Chunks b)) x b n k (suc rem) (3 * most) (omega (arith, few)) h.1 in
       let y : Pair = pair_time (view p meta (Chunks b)) u x in
-      let r = heard_now j k rem (suc most) y reached sum le t.0 in
+      let r = heard_now j k rem (suc (3 * most)) y reached sum le t.0 in
       let row : Row 2 (lacking_from b (suc n)) (every_number (suc c)) true (turned_pair k (suc j) x) =
       record { r_is = r.same ∙ (t.1 ∙ (h.0.r_is ∙ ap (λ (s : NodeConfig). rcv s.address 2 (lacking_from b (suc n)) (every_number (suc c)) true) (sym r.place))) } in
-      ((row, chunked_longer fields tiles p meta image u blocks good most few whole chunk_some b n (k + suc j) (suc rem - suc j) 0 most (turned_pair k (suc j) x) (omega arith) r.node), r.place)
+      ((row, chunked_longer fields tiles p meta image u blocks good most few whole chunk_some b n (k + suc j) (suc rem - suc j) 0 (3 * most) (turned_pair k (suc j) x) (omega arith) r.node), r.place)
 
   all_turn : (j k rem : ℕ) (ps : List Pair) → AllByRecursion (Reaches to) (configs ps) → k + suc rem ≡ suc c → j ≤ rem → AllByRecursion (Chunking k (suc rem)) ps
       → AllByRecursion (Chunking (k + suc j) (suc rem - suc j)) (map (turned_pair k (suc j)) ps) × (configs (map (turned_pair k (suc j)) ps) ≡ configs ps)
@@ -140,12 +143,6 @@ module _ (laws : KeepsPlan) (fields : FieldsAreRead) (tiles : Tiles) (p : Sendin
       cons_same e f = rw (e, f) refl
 
   -- ---- until all chunks are sent
-
-  pub record ChunksSent (cs : List NodeConfig) (xs : List Member) : Type 0 where
-    pub qs : List Pair
-    pub station : Station laws p meta config image (At (Chunks b)) [] qs xs
-    pub all : AllByRecursion (Chunking (suc c) 0) qs
-    pub same : configs qs ≡ cs
 
   pub finish_chunks : (m k rem : ℕ) (ps : List Pair) (xs : List Member) → Station laws p meta config image (At (Chunks b)) (chunks_from k rem) ps xs
       → AllByRecursion (Reaches to) (configs ps) → k + rem ≡ suc c → AllByRecursion (Chunking k rem) ps → rem ≤ 16 * m → Within m (ChunksSent (configs ps)) xs

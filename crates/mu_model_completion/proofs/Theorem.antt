@@ -1,11 +1,11 @@
 -- Completion without loss, in push.
-use Rattle.std.proofs.Common.{◌≡◌, ◌⊎◌, inl, inr, ◌<◌, ◌≤◌, ◌+◌, ◌-◌, ◌*◌, ◌^◌, ◌==◌, ℕ, zero, suc, List, [], ◌∷◌, ◌++◌, refl, sym, ap, ◌∙◌, subst, true, false, Bool, Option, Some, None, arith, map, length, lit≤}
+use Rattle.std.proofs.Common.{◌≡◌, ◌⊎◌, inl, inr, ◌<◌, ◌≤◌, ◌+◌, ◌-◌, ◌*◌, ◌^◌, ◌==◌, ℕ, zero, suc, List, [], ◌∷◌, ◌++◌, refl, sym, ap, ◌∙◌, subst, true, false, Bool, Option, Some, None, arith, map, length, take, drop, lit≤}
 use Rattle.std.specs.Prelude.{◌≢◌, ◌&&◌, ◌||◌, not, if◌then◌else◌, nat_lt}
 use Rattle.std.specs.List.{flat_map, range_with_len, AllByRecursion}
 use Rattle.std.proofs.lemmas.Bool.{eq-eqb, eqb-true}
 use Rattle.std.proofs.lemmas.Bool.Decides.{nat_tests}
-use Rattle.std.proofs.lemmas.Nat.{pow_pos}
-use Rattle.std.proofs.Math.Nat.{suc-mul, le-div_iff_mul-le, pow-le-pow_right}
+use Rattle.std.proofs.lemmas.Nat.{pow_pos, mul-le}
+use Rattle.std.proofs.Math.Nat.{mul-le-mul_left, mul-le-mul_right, suc-mul, le-div_iff_mul-le, pow-le-pow_right}
 use Rattle.mu_model_image.specs.declared.Meta.{Meta}
 use Rattle.mu_model_image.specs.Pieces.{piece_count, block_length}
 use Rattle.mu_model_image.specs.Laws.{MetaIsReadBack, FitIsTested}
@@ -13,24 +13,28 @@ use Rattle.mu_model_wire.specs.Reports.{has, every_number}
 use Rattle.mu_model_node.specs.declared.NodeConfig.{NodeConfig}
 use Rattle.mu_model_client.specs.declared.Sending.{Sending}
 use Rattle.mu_model_client.specs.declared.Plan.{Plan}
+use Rattle.mu_model_client.specs.declared.Dropped.{Dropped}
 use Rattle.mu_model_client.specs.Rows.{Row as ShownRow}
-use Rattle.mu_model_client.specs.Client.{Client, Receiver, row_of, rows, Update, Item, Sends, Before, Check, block_total, chunk_total, full_chunks}
+use Rattle.mu_model_client.specs.Client.{Client, Receiver, row_of, Update, Item, Sends, Before, At, Check, Chunks, block_total, chunk_total, full_chunks}
 use Rattle.mu_model_client.specs.Begin.{start, at_first, new_active, purpose_of}
 use Rattle.mu_model_client.specs.Told.{held_percent}
 use Rattle.mu_model_client.specs.Lists as l
 use Rattle.mu_model_client.specs.Lists.{chunk_items, missing_of, lacking}
 use Rattle.mu_model_client_laws.specs.Laws.{KeepsPlan, FieldsAreRead}
 use Rattle.mu_model_completion.specs.Turn.{Member, IsUpdater, turn, settle}
-use Rattle.mu_model_completion.specs.Completion.{at_address, rows_at, rows_in, Takes, NoneTwice, CanBegin, sixteens, push_turns, succeeded}
+use Rattle.mu_model_completion.specs.Completion.{Completed, drop_of, drops_in, drops_at, at_address, rows_at, rows_in, Takes, NoneTwice, CanBegin, sixteens, copies, push_turns, succeeded}
 use Rattle.mu_model_completion.proofs.Pairs.{Pair, receiver_in, IsHere}
 use Rattle.mu_model_completion.proofs.Nodes.{Offer}
 use Rattle.mu_model_completion.proofs.Receivers.{rcv, all_held}
-use Rattle.mu_model_completion.proofs.Stations.{client_at}
+use Rattle.mu_model_completion.proofs.Stations.{Within, client_at, Station, first_items, turn_in}
 use Rattle.mu_model_completion.proofs.Asking.{Apart, Misses, configs}
 use Rattle.mu_model_completion.proofs.First.{Good, Row}
 use Rattle.mu_model_completion.proofs.Pieces.{lacking_from, all_are_held, fewer_pieces}
-use Rattle.mu_model_completion.proofs.Blocks.{Tiles}
-use Rattle.mu_model_completion.proofs.Sixteens.{Reaches}
+use Rattle.mu_model_completion.proofs.Blocks.{Tiles, chunked_longer}
+use Rattle.mu_model_completion.proofs.Sixteens.{Reaches, begin_chunks}
+use Rattle.mu_model_completion.proofs.Alone.{own, Often, often_first, Waits, begin_alone}
+use Rattle.mu_model_completion.proofs.Each.{row_of as row_of_, rows_of, addresses, rows_length, each_once, own_rows, often_rows, first_own, all_apt, sorted_rows}
+use Rattle.mu_model_completion.proofs.Chunked.{Beginning, Chunking, ChunksSent}
 use Rattle.mu_model_completion.proofs.Course.{Reached, First}
 use Rattle.mu_model_completion.proofs.End.{Final, SomeOver, course, some_always, turns_in_all}
 
@@ -273,7 +277,7 @@ module _ (laws : KeepsPlan) (fields : FieldsAreRead) (tiles : Tiles) (read : Met
   abbrev q : ℕ
   q = sixteens (length to)
 
-  few : 3 * q < 99
+  few : 4 * q < 99
   few = let f = from.few in omega (arith, f)
 
   ps : List Pair
@@ -297,16 +301,11 @@ module _ (laws : KeepsPlan) (fields : FieldsAreRead) (tiles : Tiles) (read : Met
   apart : Apart cs
   apart = all_apart plan image members to from.takes from.none_twice
 
-  -- sixteens of chunks, less one
-  abbrev mc : ℕ
-  mc = sixteens (chunk_total p 0) - 1
-
-  counts : (b : ℕ) → b < suc blocks → (c : ℕ) × (chunk_total p b ≡ suc c) × (suc c ≤ 16 * suc mc)
+  counts : (b : ℕ) → b < suc blocks → (c : ℕ) × (chunk_total p b ≡ suc c)
   counts b lt =
       let t = total_is in
       let s = some_chunk tiles p chunk_some b (omega (arith, lt, t)) in
-      let n = no_more tiles p chunk_some b in
-      (chunk_total p b - 1, omega (arith, s), omega (arith, s, n))
+      (chunk_total p b - 1, omega (arith, s))
 
   -- ---- the first station
 
@@ -386,14 +385,19 @@ module _ (laws : KeepsPlan) (fields : FieldsAreRead) (tiles : Tiles) (read : Met
   percent : (n : ℕ) → held_percent (lacking_from (suc n) 0) ≡ 100
   percent n = ap held_percent (all_are_held (suc n)) ∙ all_held (suc n) (omega arith)
 
-  module _ (target : ℕ) (reached : AllByRecursion (Reaches target) cs)
-      (lists : (b c : ℕ) → chunk_total p b ≡ suc c → (bs : List Bool) (qs : List Pair) → AllByRecursion (Row 2 bs (every_number (suc c)) true) qs → configs qs ≡ cs
-      → chunk_items p b missing_of (map receiver_in qs) ≡ map (λ i. Sends target b i) (range_with_len 0 (suc c))) where
+  abbrev Sends_ : ℕ → Type 0
+  Sends_ mc =
+      (b n c : ℕ) (total : chunk_total p b ≡ suc c) → b + suc n ≡ suc blocks → (bs : List Pair) (ys : List Member)
+      → Station laws p meta config image (At (Chunks b)) (drop 16 (first_items laws p meta config image (Chunks b) bs)) (map (turn_in laws p meta config image (Chunks b) (take 16 (first_items laws p meta config image (Chunks b) bs))) bs) ys
+      → AllByRecursion (Beginning laws fields tiles p meta config image blocks good q few whole chunk_some b n c total) bs → configs bs ≡ cs
+      → Within mc (ChunksSent laws fields tiles p meta config image blocks good q few whole chunk_some b n c total cs) ys
+
+  module _ (mc : ℕ) (sends : Sends_ mc) (bound : suc mc ≤ sixteens (chunk_total p 0 * copies p (length to))) where
     abbrev IsOver : List Member → Type 0
-    IsOver xs = SomeOver laws fields tiles p meta config image blocks good whole chunk_some cs apart some q few fits q_some target mc reached counts lists xs
+    IsOver xs = SomeOver laws fields tiles p meta config image blocks good whole chunk_some cs apart some q few fits q_some mc counts sends xs
 
     abbrev Final_ : ℕ → Pair → Type 0
-    Final_ c x = Final laws fields tiles p meta config image blocks good whole chunk_some cs apart some q few fits q_some target mc reached counts lists c x
+    Final_ c x = Final laws fields tiles p meta config image blocks good whole chunk_some cs apart some q few fits q_some mc counts sends c x
 
     row_is : (c : ℕ) (x : Pair) → Final_ c x → row_of x.r ≡ succeeded x.config.address
     row_is c x h =
@@ -407,106 +411,203 @@ module _ (laws : KeepsPlan) (fields : FieldsAreRead) (tiles : Tiles) (read : Met
         cons_same : {x y : ShownRow} {xs ys : List ShownRow} → x ≡ y → xs ≡ ys → (x ∷ xs) ≡ (y ∷ ys)
         cons_same e f = rw (e, f) refl
 
+    drops_are : (c : ℕ) (qs : List Pair) → AllByRecursion (Final_ c) qs → map drop_of (map receiver_in qs) ≡ map (λ (a : ℕ). None) (map (λ (e : NodeConfig). e.address) (configs qs))
+    drops_are c [] h = refl
+    drops_are c (x ∷ qs) h = cons_same (ap drop_of h.0.0.r_is) (drops_are c qs h.1)
+      where
+        cons_same : {x y : Option Dropped} {xs ys : List (Option Dropped)} → x ≡ y → xs ≡ ys → (x ∷ xs) ≡ (y ∷ ys)
+        cons_same e f = rw (e, f) refl
+
+    over_drops : (xs : List Member) → IsOver xs → drops_at config.address xs ≡ Some (map (λ a. None) to)
+    over_drops xs o =
+        let v = o.over in
+        ap drops_in v.station.holds.updater
+        ∙ ap Some (drops_are o.c v.qs v.all ∙ ap (map (λ (a : ℕ). None)) (ap (λ es. map (λ (e : NodeConfig). e.address) es) v.same ∙ configs_address to from.takes))
+
     over_rows : (xs : List Member) → IsOver xs → rows_at config.address xs ≡ Some (map succeeded to)
     over_rows xs o =
         let v = o.over in
         ap rows_in v.station.holds.updater
         ∙ ap Some (rows_are o.c v.qs v.all ∙ ap (map succeeded) (ap (λ es. map (λ (e : NodeConfig). e.address) es) v.same ∙ configs_address to from.takes))
 
-    in_all : turns_in_all laws fields tiles p meta config image blocks good whole chunk_some cs apart some q few fits q_some target mc reached counts lists ≤ push_turns p (length to)
+    in_all : turns_in_all laws fields tiles p meta config image blocks good whole chunk_some cs apart some q few fits q_some mc counts sends ≤ push_turns p (length to)
     in_all =
-        let chunks : suc mc ≡ sixteens (chunk_total p 0) = (let t = total_is in let s = some_chunk tiles p chunk_some 0 (omega (arith, t)) in omega (arith, s)) in
-        let block : q + (suc mc + q) ≡ 2 * q + sixteens (chunk_total p 0) = omega (arith, chunks) in
-        let blocks_in : suc blocks * (q + (suc mc + q)) ≡ block_total p * (2 * q + sixteens (chunk_total p 0)) = ap (λ n. n * (q + (suc mc + q))) (sym total_is) ∙ ap (λ n. block_total p * n) block in
-        omega (arith, blocks_in)
+        let block : q + (suc mc + q) ≤ 2 * q + sixteens (chunk_total p 0 * copies p (length to)) = omega (arith, bound) in
+        let same : suc blocks ≡ block_total p = sym total_is in
+        let one : suc blocks * (q + (suc mc + q)) ≤ suc blocks * (2 * q + sixteens (chunk_total p 0 * copies p (length to))) = mul-le-mul_left (suc blocks) block in
+        let two : suc blocks * (2 * q + sixteens (chunk_total p 0 * copies p (length to))) ≡ block_total p * (2 * q + sixteens (chunk_total p 0 * copies p (length to))) = ap (λ n. n * (2 * q + sixteens (chunk_total p 0 * copies p (length to)))) same in
+        omega (arith, one, two)
 
     settle_more : (m n : ℕ) (xs : List Member) → settle n (settle m xs) ≡ settle (m + n) xs
     settle_more zero n xs = let e : 0 + n ≡ n = omega arith in ap (λ k. settle k xs) (sym e)
     settle_more (suc m) n xs = let e : suc m + n ≡ suc (m + n) = omega arith in settle_more m n (turn xs) ∙ ap (λ k. settle k xs) (sym e)
 
-    completes : (n : ℕ) → push_turns p (length to) ≤ n → rows_at config.address (settle n members) ≡ Some (map succeeded to)
+    completes : (n : ℕ) → push_turns p (length to) ≤ n → Completed config.address to (settle n members)
     completes n le =
-        let w = course laws fields tiles p meta config image blocks good whole chunk_some cs apart some q few fits q_some target mc reached counts lists members first_station in
+        let w = course laws fields tiles p meta config image blocks good whole chunk_some cs apart some q few fits q_some mc counts sends members first_station in
         let short = w.few in
-        let bound = in_all in
+        let within = in_all in
         let rest : ℕ = n - w.turns in
-        let e : w.turns + rest ≡ n = omega (arith, short, bound, le) in
-        let later = some_always laws fields tiles p meta config image blocks good whole chunk_some cs apart some q few fits q_some target mc reached counts lists rest (settle w.turns members) w.then_is in
-        over_rows (settle n members) (subst (λ k. IsOver (settle k members)) e (subst IsOver (settle_more w.turns rest members) later))
+        let e : w.turns + rest ≡ n = omega (arith, short, within, le) in
+        let later = some_always laws fields tiles p meta config image blocks good whole chunk_some cs apart some q few fits q_some mc counts sends rest (settle w.turns members) w.then_is in
+        let there = (subst (λ k. IsOver (settle k members)) e (subst IsOver (settle_more w.turns rest members) later)) in
+        record { rows = over_rows (settle n members) there; drops = over_drops (settle n members) there }
 
-  -- ---- to a group, or to one receiver
+  -- ---- to a group
 
-  by_group : plan.sending.group ≢ 0 → (n : ℕ) → push_turns p (length to) ≤ n → rows_at config.address (settle n members) ≡ Some (map succeeded to)
-  by_group g n le =
-      completes plan.sending.group (all_reached plan image members g to from.takes)
-      (λ b c total bs qs rows same. group_lists p (no_zero plan.sending.group g) b c total bs qs rows
-      (let l = ap (length {A = NodeConfig}) same in let k = configs_long qs in let s = some in omega (arith, l, k, s))) n le
+  weaker : (b n c : ℕ) (total : chunk_total p b ≡ suc c) (bs : List Pair) → AllByRecursion (Beginning laws fields tiles p meta config image blocks good q few whole chunk_some b n c total) bs
+      → AllByRecursion (Chunking laws fields tiles p meta config image blocks good q few whole chunk_some b n c total 0 (suc c)) bs
+  weaker b n c total [] h = tt
+  weaker b n c total (x ∷ bs) h = ((h.0.0, chunked_longer fields tiles p meta image config.address blocks good q few whole chunk_some b n 0 (suc c) q (3 * q) x (omega arith) h.0.1), weaker b n c total bs h.1)
+
+  only_rows : (b n c : ℕ) (total : chunk_total p b ≡ suc c) (bs : List Pair) → AllByRecursion (Beginning laws fields tiles p meta config image blocks good q few whole chunk_some b n c total) bs
+      → AllByRecursion (Row 2 (lacking_from b (suc n)) (every_number (suc c)) true) bs
+  only_rows b n c total [] h = tt
+  only_rows b n c total (x ∷ bs) h = (h.0.0, only_rows b n c total bs h.1)
+
+  configs_long : (qs : List Pair) → length (configs qs) ≡ length qs
+  configs_long [] = refl
+  configs_long (x ∷ qs) = ap suc (configs_long qs)
+
+  -- sixteens of chunks, less one
+  abbrev group_mc : ℕ
+  group_mc = sixteens (chunk_total p 0) - 1
+
+  group_sends : plan.sending.group ≢ 0 → Sends_ group_mc
+  group_sends g b n c total sum bs ys s h same =
+      let l = ap (length {A = NodeConfig}) same in
+      let k = configs_long bs in
+      let o = some in
+      let fewer = no_more tiles p chunk_some b in
+      let list = group_lists p (no_zero plan.sending.group g) b c total (lacking_from b (suc n)) bs (only_rows b n c total bs h) (omega (arith, l, k, o)) in
+      let done = begin_chunks laws fields tiles p meta config image blocks good q few whole chunk_some plan.sending.group b n c total group_mc bs ys (first_items laws p meta config image (Chunks b) bs) list s
+      (subst (AllByRecursion (Reaches plan.sending.group)) (sym same) (all_reached plan image members g to from.takes)) (weaker b n c total bs h) (omega (arith, fewer, total)) in
+      record { turns = done.turns; few = done.few; then_is = (let f = done.then_is in record { qs = f.qs; station = f.station; all = f.all; same = f.same ∙ same }) }
     where
       no_zero : (g : ℕ) → g ≢ 0 → (g == 0) ≡ false
       no_zero g h = grind (arith, nat_tests, h)
 
-      configs_long : (qs : List Pair) → length (configs qs) ≡ length qs
-      configs_long [] = refl
-      configs_long (x ∷ qs) = ap suc (configs_long qs)
+  some_total : 1 ≤ chunk_total p 0
+  some_total = let t = total_is in some_chunk tiles p chunk_some 0 (omega (arith, t))
 
-  abbrev Lists : ℕ → List NodeConfig → Type 0
-  Lists target es =
-      (b c : ℕ) → chunk_total p b ≡ suc c → (bs : List Bool) (qs : List Pair) → AllByRecursion (Row 2 bs (every_number (suc c)) true) qs → configs qs ≡ es
-      → chunk_items p b missing_of (map receiver_in qs) ≡ map (λ i. Sends target b i) (range_with_len 0 (suc c))
-
-  record OneTarget (es : List NodeConfig) : Type 0 where
-    target : ℕ
-    reached : AllByRecursion (Reaches target) es
-    lists : Lists target es
-
-  first_of : NodeConfig → List NodeConfig → NodeConfig
-  first_of e [] = e
-  first_of e (f ∷ fs) = f
-
-  one_list : (p.group == 0) ≡ true → (a : ℕ) (e : NodeConfig) → e.address ≡ a → Lists a (e ∷ [])
-  one_list g a e at_a b c total bs [] rows same = absurd (none_one same)
+  by_group : plan.sending.group ≢ 0 → (n : ℕ) → push_turns p (length to) ≤ n → Completed config.address to (settle n members)
+  by_group g n le =
+      let one : chunk_total p 0 * copies p (length to) ≡ chunk_total p 0 * 1 = ap (λ z. chunk_total p 0 * (if z then length to else 1)) (no_zero plan.sending.group g) in
+      let s = some_total in
+      completes group_mc (group_sends g) (omega (arith, one, s)) n le
     where
-      none_one : [] ≡ e ∷ [] → ⊥
-      none_one h = grind (arith, h)
-  one_list g a e at_a b c total bs (x ∷ []) rows same =
-      alone_list p g a b c total bs x rows.0 (ap (λ (z : NodeConfig). z.address) (head_same x.config e same) ∙ at_a)
+      no_zero : (g : ℕ) → g ≢ 0 → (g == 0) ≡ false
+      no_zero g h = grind (arith, nat_tests, h)
+
+  -- ---- to each receiver
+
+  -- who misses all chunks is in each list
+  all_lacking : (b n c : ℕ) (total : chunk_total p b ≡ suc c) (bs : List Pair) → AllByRecursion (Beginning laws fields tiles p meta config image blocks good q few whole chunk_some b n c total) bs
+      → (k : ℕ) → k < suc c → lacking missing_of (map receiver_in bs) k ≡ addresses b (configs bs)
+  all_lacking b n c total [] h k lt = refl
+  all_lacking b n c total (x ∷ bs) h k lt =
+      ap (λ z. l.lacking_if x.r.row.address z ++ lacking missing_of (map receiver_in bs) k) (ap (l.lacks_chunk missing_of k) h.0.0.r_is ∙ has_every (suc c) 0 k lt)
+      ∙ cons_same (ap (λ (r : Receiver). r.row.address) h.0.0.r_is) (all_lacking b n c total bs h.1 k lt)
     where
-      head_same : (f g : NodeConfig) → (f ∷ []) ≡ (g ∷ []) → f ≡ g
-      head_same f g h = ap (first_or f) h
-        where
-          first_or : NodeConfig → List NodeConfig → NodeConfig
-          first_or e [] = e
-          first_or e (f ∷ fs) = f
-  one_list g a e at_a b c total bs (x ∷ y ∷ qs) rows same = absurd (two_one same)
+      cons_same : {x y : ℕ} {xs ys : List ℕ} → x ≡ y → xs ≡ ys → (x ∷ xs) ≡ (y ∷ ys)
+      cons_same e f = rw (e, f) refl
+
+  flat_upto : (f g : ℕ → List Item) (m i : ℕ) → ((k : ℕ) → i ≤ k → k < i + m → f k ≡ g k) → flat_map f (range_with_len i m) ≡ flat_map g (range_with_len i m)
+  flat_upto f g zero i h = refl
+  flat_upto f g (suc m) i h = rw (h i (omega arith) (omega arith), flat_upto f g m (i + 1) (λ k low high. h k (omega (arith, low)) (omega (arith, high)))) refl
+
+  alone_list_is : (p.group == 0) ≡ true → (b n c : ℕ) (total : chunk_total p b ≡ suc c) (bs : List Pair) → AllByRecursion (Beginning laws fields tiles p meta config image blocks good q few whole chunk_some b n c total) bs
+      → chunk_items p b missing_of (map receiver_in bs) ≡ rows_of b (addresses b (configs bs)) 0 (suc c)
+  alone_list_is g b n c total bs h =
+      let f : ℕ → List Item = λ k. map (λ to. Sends to b k) (l.destinations p (lacking missing_of (map receiver_in bs) k)) in
+      ap (λ m. flat_map f (range_with_len 0 m)) total
+      ∙ flat_upto f (λ k. row_of_ b k (addresses b (configs bs))) (suc c) 0
+      (λ k low high. ap (λ z. map (λ to. Sends to b k) (if z then lacking missing_of (map receiver_in bs) k else l.to_group p.group (lacking missing_of (map receiver_in bs) k))) g
+      ∙ ap (map (λ to. Sends to b k)) (all_lacking b n c total bs h k (omega (arith, high))))
+
+  address_count : (b : ℕ) (es : List NodeConfig) → length (addresses b es) ≡ length es
+  address_count b [] = refl
+  address_count b (e ∷ es) = ap suc (address_count b es)
+
+  -- each waits for its own chunks
+  module _ (b n c : ℕ) (total : chunk_total p b ≡ suc c) (sum : b + suc n ≡ suc blocks) where
+    abbrev Waits_ : List Item → Pair → Type 0
+    Waits_ list x = Waits laws fields tiles p meta config image blocks good q few whole chunk_some b n c total sum q_some list x
+
+    waits_one : (all : List NodeConfig) (x : Pair) → Beginning laws fields tiles p meta config image blocks good q few whole chunk_some b n c total x → length all ≤ 16 * q
+        → ((k : ℕ) → own x.config.address (row_of_ b k (addresses b all)) ≡ Sends x.config.address b k ∷ []) → AllByRecursion (λ (e : NodeConfig). (e.address ≡ x.config.address) ⊎ Misses e.address x.config) all
+        → Waits_ (rows_of b (addresses b all) 0 (suc c)) x
+    waits_one all x h le once apt =
+        let count = address_count b all in
+        let often : Often x.config.address (16 * q) (rows_of b (addresses b all) 0 (suc c)) =
+        often_rows b x.config.address (16 * q) (addresses b all) (omega (arith, count, le)) (λ k. first_own b x.config.address k (addresses b all) (once k)) (suc c) 0 in
+        let soon = often_first x.config.address (16 * q) (rows_of b (addresses b all) 0 (suc c)) often in
+        record {
+          row = h.0;
+          k = 0;
+          rem = suc c;
+          age = q;
+          its = own_rows b x.config.address (addresses b all) once (suc c) 0;
+          all = omega arith;
+          node = h.1;
+          soon = omega (arith, soon);
+          often = often;
+          sorted = sorted_rows b x.config all apt (suc c) 0;
+        }
+
+    waits_all : (all : List NodeConfig) → length all ≤ 16 * q → (bs : List Pair) → AllByRecursion (Beginning laws fields tiles p meta config image blocks good q few whole chunk_some b n c total) bs
+        → ((k : ℕ) → AllByRecursion (λ (e : NodeConfig). own e.address (row_of_ b k (addresses b all)) ≡ Sends e.address b k ∷ []) (configs bs))
+        → AllByRecursion (λ (e : NodeConfig). AllByRecursion (λ (f : NodeConfig). (f.address ≡ e.address) ⊎ Misses f.address e) all) (configs bs)
+        → AllByRecursion (Waits_ (rows_of b (addresses b all) 0 (suc c))) bs
+    waits_all all le [] h once apt = tt
+    waits_all all le (x ∷ bs) h once apt = (waits_one all x h.0 le (λ k. (once k).0) apt.0, waits_all all le bs h.1 (λ k. (once k).1) apt.1)
+
+  abbrev alone_mc : ℕ
+  alone_mc = sixteens (chunk_total p 0 * length to) - 1
+
+  some_first : (list : List Item) → 1 ≤ length list → (i : Item) × (is : List Item) × (list ≡ i ∷ is)
+  some_first [] le = absurd (omega (arith, le))
+  some_first (i ∷ is) le = (i, is, refl)
+
+  alone_sends : (p.group == 0) ≡ true → Sends_ alone_mc
+  alone_sends g b n c total sum bs ys s h same =
+      let es : List NodeConfig = configs bs in
+      let apart_b : Apart es = subst Apart (sym same) apart in
+      let count = ap (length {A = NodeConfig}) same in
+      let fit = fits in
+      let to_long = long in
+      let list : List Item = rows_of b (addresses b es) 0 (suc c) in
+      let is_list : first_items laws p meta config image (Chunks b) bs ≡ list = alone_list_is g b n c total bs h in
+      let waits = waits_all b n c total sum es (omega (arith, count, fit)) bs h (λ k. each_once b k es apart_b) (all_apt b es apart_b) in
+      let size = rows_length b (addresses b es) 0 (suc c) in
+      let many = address_count b es in
+      let n_is : length (addresses b es) ≡ length to = omega (arith, many, count, to_long) in
+      let size_is : length list ≡ suc c * length to = size ∙ ap (λ z. suc c * z) n_is in
+      let fewer = no_more tiles p chunk_some b in
+      let most : suc c * length to ≤ chunk_total p 0 * length to = mul-le-mul_right (length to) (omega (arith, fewer, total)) in
+      let one : 1 * 1 ≤ suc c * length to = mul_le_both 1 1 (suc c) (length to) (omega arith) from.some in
+      let split = some_first list (omega (arith, size_is, one)) in
+      let here : Station laws p meta config image (At (Chunks b)) (drop 16 (split.0 ∷ split.1)) (map (turn_in laws p meta config image (Chunks b) (take 16 (split.0 ∷ split.1))) bs) ys =
+      subst (λ items. Station laws p meta config image (At (Chunks b)) (drop 16 items) (map (turn_in laws p meta config image (Chunks b) (take 16 items)) bs) ys) (is_list ∙ split.2) s in
+      let short : length (split.0 ∷ split.1) ≤ 16 * suc alone_mc = (let e = ap (length {A = Item}) split.2 in omega (arith, e, size_is, most, one)) in
+      let done = begin_alone laws fields tiles p meta config image blocks good q few whole chunk_some b n c total sum q_some alone_mc split.0 split.1 bs ys here (subst (λ items. AllByRecursion (Waits_ b n c total sum items) bs) split.2 waits) short in
+      record { turns = done.turns; few = done.few; then_is = (let f = done.then_is in record { qs = f.qs; station = f.station; all = f.all; same = f.same ∙ same }) }
     where
-      two_one : (x.config ∷ y.config ∷ configs qs) ≡ e ∷ [] → ⊥
-      two_one h = grind (arith, h)
+      mul_le_both : (a b m n : ℕ) → a ≤ m → b ≤ n → a * b ≤ m * n
+      mul_le_both a b m n h k = mul-le a b m n h k
 
-  one_target : (p.group == 0) ≡ true → (as_ : List ℕ) (h : AllByRecursion (Takes plan members) as_) → length as_ ≡ 1 → OneTarget (configs (pairs plan image members as_ h))
-  unfolding pairs
-  one_target g [] h e = absurd (omega (arith, e))
-  one_target g (a ∷ []) h e = record {
-    target = a;
-    reached = (ap (λ z. z || (not (h.0.config.group == 0) && (a == h.0.config.group))) (eq-eqb a h.0.config.address (sym (address_is plan image members a h.0))), tt);
-    lists = one_list g a h.0.config (address_is plan image members a h.0);
-  }
-  one_target g (a ∷ b ∷ rest) h e = absurd (omega (arith, e))
+  by_each : (p.group == 0) ≡ true → (n : ℕ) → push_turns p (length to) ≤ n → Completed config.address to (settle n members)
+  by_each g n le =
+      let copy : chunk_total p 0 * copies p (length to) ≡ chunk_total p 0 * length to = ap (λ z. chunk_total p 0 * (if z then length to else 1)) g in
+      let one : 1 * 1 ≤ chunk_total p 0 * length to = mul-le 1 1 (chunk_total p 0) (length to) some_total from.some in
+      completes alone_mc (alone_sends g) (omega (arith, copy, one)) n le
 
-  alone : plan.sending.group ≡ 0 → length to ≡ 1 → (n : ℕ) → push_turns p (length to) ≤ n → rows_at config.address (settle n members) ≡ Some (map succeeded to)
-  alone g one n le =
-      let t = one_target (eq-eqb plan.sending.group 0 g) to from.takes one in
-      completes t.target t.reached t.lists n le
-
-  by_zero : (plan.sending.group ≢ 0) ⊎ (length to ≡ 1) → (zero : Bool) → (plan.sending.group == 0) ≡ zero → (n : ℕ) → push_turns p (length to) ≤ n
-      → rows_at config.address (settle n members) ≡ Some (map succeeded to)
-  by_zero h true e n le = elim h [
-    | inl some ↦ absurd (some (eqb-true plan.sending.group 0 e))
-    | inr one ↦ alone (eqb-true plan.sending.group 0 e) one n le
-  ]
-  by_zero h false e n le = by_group (λ z. false_true (sym e ∙ eq-eqb plan.sending.group 0 z)) n le
+  by_zero : (zero : Bool) → (plan.sending.group == 0) ≡ zero → (n : ℕ) → push_turns p (length to) ≤ n → Completed config.address to (settle n members)
+  by_zero true e n le = by_each e n le
+  by_zero false e n le = by_group (λ z. false_true (sym e ∙ eq-eqb plan.sending.group 0 z)) n le
     where
       false_true : false ≡ true → ⊥
       false_true h = grind (arith, h)
 
-  pub push_completes : (plan.sending.group ≢ 0) ⊎ (length to ≡ 1) → (n : ℕ) → push_turns p (length to) ≤ n → rows_at config.address (settle n members) ≡ Some (map succeeded to)
-  push_completes h n le = by_zero h (plan.sending.group == 0) refl n le
+  pub push_completes : (n : ℕ) → push_turns p (length to) ≤ n → Completed config.address to (settle n members)
+  push_completes n le = by_zero (plan.sending.group == 0) refl n le

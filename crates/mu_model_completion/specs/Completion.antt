@@ -1,15 +1,17 @@
 -- How many turns an update takes in which nothing is lost.
-use Rattle.std.specs.Prelude.{ℕ, ◌≡◌, ◌≢◌, ◌<◌, ◌≤◌, ◌+◌, ◌*◌, ◌⊎◌, ◌==◌, true, false, List, [], ◌∷◌, length, map, Option, Some, None, if◌then◌else◌}
+use Rattle.std.specs.Prelude.{ℕ, ◌≡◌, ◌≢◌, ◌<◌, ◌≤◌, ◌+◌, ◌*◌, ◌^◌, ◌⊎◌, ◌==◌, true, false, List, [], ◌∷◌, length, map, Option, Some, None, if◌then◌else◌}
 use Rattle.std.specs.List.{AllByRecursion}
-use Rattle.mu_model_image.specs.Meta.{Image, IsMeta, IsFit}
+use Rattle.mu_model_image.specs.Meta.{Image, IsMeta, IsFit, image_of}
 use Rattle.mu_model_image.specs.Pieces.{piece_count}
 use Rattle.mu_model_node.specs.declared.NodeConfig.{NodeConfig}
 use Rattle.mu_model_node.specs.NodeState.{NodeState}
 use Rattle.mu_model_client.specs.declared.Sending.{Sending}
 use Rattle.mu_model_client.specs.declared.Plan.{Plan}
+use Rattle.mu_model_client.specs.declared.Dropped.{Dropped}
 use Rattle.mu_model_client.specs.Rows.{Row}
-use Rattle.mu_model_client.specs.Client.{rows, block_total, chunk_total}
-use Rattle.mu_model_client.specs.Begin.{start, is_ended}
+use Rattle.mu_model_client.specs.Client.{Receiver, rows, block_total, chunk_total}
+use Rattle.mu_model_client.specs.Begin.{start, is_ended, cause_of}
+use Rattle.mu_model_completion.specs.Worked.{three_nodes}
 use Rattle.mu_model_completion.specs.Turn.{Member, Part, IsNode, IsUpdater, settle}
 
 -- ---- members by address
@@ -43,6 +45,21 @@ rows_in (Some x) = rows_of x.part
 
 abbrev pub rows_at : ℕ → List Member → Option (List Row)
 rows_at a members = rows_in (at_address a members)
+
+-- why each receiver of the updater at an address was dropped, if it was
+abbrev pub drop_of : Receiver → Option Dropped
+drop_of r = cause_of r.standing
+
+abbrev pub drops_of : Part → Option (List (Option Dropped))
+drops_of (IsNode s) = None
+drops_of (IsUpdater c image) = Some (map drop_of c.receivers)
+
+abbrev pub drops_in : Option Member → Option (List (Option Dropped))
+drops_in None = None
+drops_in (Some x) = drops_of x.part
+
+abbrev pub drops_at : ℕ → List Member → Option (List (Option Dropped))
+drops_at a members = drops_in (at_address a members)
 
 -- ---- what is sent, and to whom
 
@@ -96,13 +113,18 @@ pub record CanBegin (plan : Plan) (image : List ℕ) (to : List ℕ) (members : 
 
 -- ---- the bound
 
--- sixteens of receivers, and of chunks of a full block
+-- sixteens of receivers, and of packets
 abbrev pub sixteens : ℕ → ℕ
 sixteens n = piece_count n 16
 
--- seven steps in which each is asked once; and for each block two such steps and the chunks
+-- packets for a chunk: one to a group, and without one to each receiver
+abbrev pub copies : Sending → (receivers : ℕ) → ℕ
+copies p receivers = if p.group == 0 then receivers else 1
+
+-- seven steps in which each is asked once; and for each block two such steps and the chunks of a full block
 abbrev pub push_turns : Sending → (receivers : ℕ) → ℕ
-push_turns p receivers = 7 * sixteens receivers + block_total p * (2 * sixteens receivers + sixteens (chunk_total p 0))
+push_turns p receivers =
+    7 * sixteens receivers + block_total p * (2 * sixteens receivers + sixteens (chunk_total p 0 * copies p receivers))
 
 -- ---- the law
 
@@ -110,9 +132,31 @@ push_turns p receivers = 7 * sixteens receivers + block_total p * (2 * sixteens 
 abbrev pub succeeded : ℕ → Row
 succeeded a = record { address = a; index = 0; phase = 8; update_status = 0; transfer_status = 0; progress = 100 }
 
--- in push, to a group or to one receiver, all receivers have succeeded after so many turns, and from then on
+-- all receivers have succeeded, and none was dropped
+pub record Completed (u : ℕ) (to : List ℕ) (members : List Member) : Type 0 where
+  pub rows : rows_at u members ≡ Some (map succeeded to)
+  pub drops : drops_at u members ≡ Some (map (λ a. None) to)
+
+-- in push this is so after so many turns, and from then on
 abbrev pub PushCompletes : Type 0
 PushCompletes =
     (plan : Plan) (image : List ℕ) (to : List ℕ) (members : List Member) (from : CanBegin plan image to members)
-    → plan.sending.mode ≡ 1 → ((plan.sending.group ≢ 0) ⊎ (length to ≡ 1))
-    → (n : ℕ) → push_turns plan.sending (length to) ≤ n → rows_at from.config.address (settle n members) ≡ Some (map succeeded to)
+    → plan.sending.mode ≡ 1 → (n : ℕ) → push_turns plan.sending (length to) ≤ n
+    → Completed from.config.address to (settle n members)
+
+-- three receivers and 64 KiB in 16 blocks of 21 chunks, to a group: 71 turns
+abbrev pub plan_64 : (version : ℕ) → List ℕ → Plan
+plan_64 version image = record {
+  sending = record { from = 1; id = 0x0001_0000_0000_0007; size = 65536; log = 12; chunk = 200; mode = 1; group = 0xC000; ttl = 5; base = 0 };
+  meta = (image_of version image).meta;
+  apply = true;
+}
+
+abbrev pub members_64 : (version : ℕ) → List ℕ → List Member
+members_64 version image =
+    record { config = record { address = 1; group = 0 }; moment = 0; part = IsUpdater (start (plan_64 version image) ((2, 0) ∷ (3, 0) ∷ (4, 0) ∷ [])) image } ∷ three_nodes
+
+abbrev pub ThreeOver64KiB : Type 0
+ThreeOver64KiB =
+    (version : ℕ) (image : List ℕ) → 1 < version → version < 2 ^ 32 → length image ≡ 65536
+    → rows_at 1 (settle 71 (members_64 version image)) ≡ Some (succeeded 2 ∷ succeeded 3 ∷ succeeded 4 ∷ [])

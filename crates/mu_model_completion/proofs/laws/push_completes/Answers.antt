@@ -2,7 +2,7 @@ use Rattle.mu_model_completion.proofs.Theorem.{push_completes}
 use Rattle.mu_model_completion.proofs.laws.push_completes.Goals as goal
 
 pub returns : goal.returns
-returns c plan image to members from mode some n le =
+returns c plan image to members from mode n le =
     push_completes c.plans_stay.ensures c.fields_are_read.ensures
     (record {
       blocks_joined = c.blocks-2.ensures.joined;
@@ -12,4 +12,4 @@ returns c plan image to members from mode some n le =
       chunks_within = c.chunks.ensures.within;
       chunk_long = c.chunks.ensures.length;
     })
-    c.metadata.ensures.read_back c.images.ensures.tested plan image to members from mode some n le
+    c.metadata.ensures.read_back c.images.ensures.tested plan image to members from mode n le
