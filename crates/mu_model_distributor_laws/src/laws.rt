@@ -10,9 +10,10 @@ ghost use Rattle.mu_model_distributor_laws.specs.Laws.{EventsKeepStatesSound, Bo
 ghost use Rattle.mu_model_distributor_laws.specs.Planned.{EventsKeepPlanned, BootsArePlanned, StartsAreOffered, CountersRise};
 ghost use Rattle.mu_model_distributor_laws.specs.RowMoves.{RowsMoveByCause};
 ghost use Rattle.mu_model_distributor_laws.specs.RowsTold.{OffersStand, RowsAreTold};
+ghost use Rattle.mu_model_distributor_laws.specs.Lists.{ListsShowRows, ListsAreTold};
 ghost use Rattle.mu_model_distributor_laws.specs.RunLaws.{RunsAreInOrder, NoNumberIsLost};
 
-use mu_model_wire::laws::{grammar_holds, reads_what_is_spelled};
+use mu_model_wire::laws::{canonical_is_read, grammar_holds, reads_what_is_spelled};
 
 /// The rules on a distributor's record hold in each state that it goes through, from each boot on.
 pub fn states_are_sound()
@@ -73,6 +74,16 @@ pub fn rows_are_told()
     ensures stand { OffersStand }
     ensures told { RowsAreTold }
 {
+    mu_model_node::laws::states_are_sound();
+}
+
+/// The Receivers Lists of a distributor, read from their octets, show its rows, and so what its receivers told it.
+pub fn lists_are_told()
+    ensures rows { ListsShowRows }
+    ensures told { ListsAreTold }
+{
+    grammar_holds();
+    canonical_is_read();
     mu_model_node::laws::states_are_sound();
 }
 
