@@ -5,7 +5,7 @@ ghost use Rattle.mu_model_distributor_laws.specs.WorkedUploads.{AWholeUpload, Br
 ghost use Rattle.mu_model_distributor_laws.specs.WorkedPhases.{PhaseByPhase};
 ghost use Rattle.mu_model_distributor_laws.specs.WorkedRun.{ADistribution};
 ghost use Rattle.mu_model_distributor_laws.specs.WorkedSettle.{NothingIsLost};
-ghost use Rattle.mu_model_distributor_laws.specs.WorkedEnds.{VerificationEnds, ManyReceivers};
+ghost use Rattle.mu_model_distributor_laws.specs.WorkedEnds.{VerificationEnds, Confirmations, ManyReceivers};
 ghost use Rattle.mu_model_distributor_laws.specs.Laws.{EventsKeepStatesSound, BootsAreSound, PassedStatesAreSound, NewIsSound, StockedIsSound, OctetsSayInRange, StatesPassRising, WorkLeavesOldOrNew, WorkLeadsToTheNew, WorkIsBounded, RecordsAreLongByReceivers, RecordsSaySomething, LongIsPastTheEnd};
 ghost use Rattle.mu_model_distributor_laws.specs.Planned.{EventsKeepPlanned, BootsArePlanned, StartsAreOffered, CountersRise};
 ghost use Rattle.mu_model_distributor_laws.specs.RowMoves.{RowsMoveByCause};
@@ -97,5 +97,6 @@ pub fn worked_rows()
     ensures distribution { ADistribution }
     ensures nothing_is_lost { NothingIsLost }
     ensures verification_ends { VerificationEnds }
+    ensures confirmations { Confirmations }
     ensures many_receivers { ManyReceivers }
 {}
