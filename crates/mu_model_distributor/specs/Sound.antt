@@ -11,7 +11,7 @@ use Rattle.mu_model_node.specs.FlashWork.{page_octets}
 use Rattle.mu_model_node.specs.Sound.{IsActiveImage, HasBlocks, IsCurrent, BlobRequestFits}
 use Rattle.mu_model_client.specs.Client.{Client, rows}
 use Rattle.mu_model_client.specs.Answers.{Answer, FromUpdate, FromBlob, BlobAnswer, TransferIs, BlockIs}
-use Rattle.mu_model_distributor.specs.Requests.{Settings, Entry, UploadStart, DistRequest, ReceiversAdd, DistributionStart, StartUpload}
+use Rattle.mu_model_distributor.specs.Requests.{Settings, Entry, UploadStart, DistRequest, ReceiversAdd, ReceiversGet, DistributionStart, StartUpload}
 use Rattle.mu_model_distributor.specs.Replies.{most_receivers, most_images}
 use Rattle.mu_model_distributor.specs.DistMessages.{Taken, OfDistribution, OfBlob, OfReceiver}
 use Rattle.mu_model_distributor.specs.DistState.{StoredImage, Receiver, UploadJob, Upload, Uploading, job_of, DistPhase, Idle, DistDurable, DistState, is_at_rest, receiver_of, progress_of}
@@ -162,6 +162,7 @@ pub record IsUploadStart (u : UploadStart) : Type 0 where
 
 abbrev pub DistRequestFits : DistRequest → Type 0
 DistRequestFits (ReceiversAdd entries) = AllByRecursion IsEntry entries
+DistRequestFits (ReceiversGet first limit) = first < 65536
 DistRequestFits (DistributionStart (Some settings)) = AreSettings settings
 DistRequestFits (StartUpload u) = IsUploadStart u
 DistRequestFits _ = Unit {0}

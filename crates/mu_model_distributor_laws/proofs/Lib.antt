@@ -25,3 +25,6 @@ pub mod RunLaws
 pub mod Records
 pub mod RowsTold
 pub mod Stands
+pub mod Lists
+pub mod ListsSent
+pub mod ListsTold

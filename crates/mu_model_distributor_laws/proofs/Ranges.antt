@@ -7,10 +7,10 @@ use Rattle.std.proofs.lemmas.Bool.{eqb-true}
 use Rattle.std.proofs.lemmas.List.Elements.{All-from_get_or}
 use Rattle.mu_model_wire.specs.declared.Refusal.{Refusal}
 use Rattle.mu_model_wire.specs.Fields.{Shown, number, octets, Message}
-use Rattle.mu_model_wire.specs.Names.{label, status}
+use Rattle.mu_model_wire.specs.Names.{label, status, first}
 use Rattle.mu_model_wire.specs.Blob.{transfer_start, transfer_status, block_status}
 use Rattle.mu_model_wire.specs.Update.{metadata_status, update_status}
-use Rattle.mu_model_wire.specs.Distribution.{receiver_fields, distribution_start, upload_start}
+use Rattle.mu_model_wire.specs.Distribution.{receiver_fields, receivers_get, distribution_start, upload_start}
 use Rattle.mu_model_wire.specs.Reading.{value_of, message_at, fields_of}
 use Rattle.mu_model_wire.specs.Spelling.{opcode_spelling, Fits, FieldsFit, RowFits, EntryFits, EntriesFit}
 use Rattle.mu_model_wire.specs.Spells.{FieldsSpell, RowSpells, Spells}
@@ -53,6 +53,13 @@ entry_fits (number a v ∷ octets b w ∷ more) h = absurd h.1.0
 entries_fit : (es : List (List Shown)) → EntriesFit receiver_fields es → AllByRecursion IsEntry (map entry_of es)
 entries_fit [] h = tt
 entries_fit (e ∷ es) h = (entry_fits e h.0, entries_fit es h.1)
+
+-- ---- a Receivers Get
+
+get_fits : (fields : List Shown) (entries : List (List Shown)) → FieldsFit receivers_get [] fields entries → value_of first fields < 65536
+get_fits [] entries h = absurd h.0
+get_fits (octets a v ∷ more) entries h = absurd h.0
+get_fits (number a v ∷ more) entries h = rw h.0.0 h.0.1
 
 -- ---- a Distribution Start
 
@@ -192,7 +199,7 @@ dist_fits : MetaThatIsReadIsInRange → (m : Message) (bytes : List ℕ) → IsR
 dist_fits law m bytes h =
     tested (m.opcode == 0x8311) _ _ (λ e. entries_fit m.entries (row_of m bytes 0x8311 h e).2)
     (tested (m.opcode == 0x8312) _ _ (λ e. tt)
-    (tested (m.opcode == 0x8314) _ _ (λ e. tt)
+    (tested (m.opcode == 0x8314) _ _ (λ e. get_fits m.fields m.entries (row_of m bytes 0x8314 h e))
     (tested (m.opcode == 0x8316) _ _ (λ e. tt)
     (tested (m.opcode == 0x8318) _ _ (λ e. tt)
     (tested (m.opcode == 0x8319) _ _ (λ e. start_fits m.fields m.entries (row_of m bytes 0x8319 h e))

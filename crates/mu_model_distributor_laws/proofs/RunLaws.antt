@@ -49,7 +49,7 @@ happens law address s (Done event now) fits k = record { sound = events_keep law
 happens law address s CutPower fits k = booted address s.durable k.sound.durable
 happens law address s (Torn event now operations) fits k = booted address _ (left_is IsDistDurable address s event now operations k.sound.durable (events_keep law address s event now fits k.sound).durable)
 
-run_in_order : RequestsKeepStatesSound → (address : ℕ) (s : DistState) (hs : List Happening) → AllByRecursion HappeningFits hs → IsInOrder address s → IsInOrder address (state_after address s hs)
+pub run_in_order : RequestsKeepStatesSound → (address : ℕ) (s : DistState) (hs : List Happening) → AllByRecursion HappeningFits hs → IsInOrder address s → IsInOrder address (state_after address s hs)
 run_in_order law address s [] fits k = k
 run_in_order law address s (h ∷ hs) fits k = run_in_order law address (happened address s h) hs fits.1 (happens law address s h fits.0 k)
 

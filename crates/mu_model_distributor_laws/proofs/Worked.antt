@@ -7,7 +7,7 @@ use Rattle.mu_model_distributor_laws.specs.WorkedUploads.{AWholeUpload, BrokenUp
 use Rattle.mu_model_distributor_laws.specs.WorkedPhases.{PhaseByPhase}
 use Rattle.mu_model_distributor_laws.specs.WorkedRun.{ADistribution}
 use Rattle.mu_model_distributor_laws.specs.WorkedSettle.{NothingIsLost}
-use Rattle.mu_model_distributor_laws.specs.WorkedEnds.{VerificationEnds, ManyReceivers}
+use Rattle.mu_model_distributor_laws.specs.WorkedEnds.{VerificationEnds, Confirmations, ManyReceivers}
 
 pub receivers_and_images_is : ReceiversAndImages
 unfolding word_at octets_at opcode_at pattern_at
@@ -19,11 +19,11 @@ whole_upload_is = record { told_started = refl; seen_started = refl; again = ref
 
 pub broken_uploads_is : BrokenUploads
 unfolding word_at octets_at opcode_at pattern_at
-broken_uploads_is = record { told_broken = refl; seen_broken = refl; resumed = refl; seen_resumed = refl; replaced = refl; seen_cut = refl; seen_cut_later = refl; seen_cut_said = refl; seen_cut_resumed = refl; cut_resumed_blob = refl; seen_cut_blob_canceled = refl; seen_blob_canceled = refl; seen_blob_canceled_later = refl; canceled = refl; seen_canceled = refl; seen_canceled_again = refl }
+broken_uploads_is = record { told_broken = refl; seen_broken = refl; resumed = refl; seen_resumed = refl; replaced = refl; last_bank = refl; seen_cut = refl; seen_cut_later = refl; seen_cut_said = refl; seen_cut_resumed = refl; cut_resumed_blob = refl; seen_cut_blob_canceled = refl; seen_blob_canceled = refl; seen_blob_canceled_later = refl; canceled = refl; seen_canceled = refl; seen_canceled_again = refl }
 
 pub refused_uploads_is : RefusedUploads
 unfolding word_at octets_at opcode_at pattern_at sha256 digest_bytes hash_after compress rounds schedule first_words
-refused_uploads_is = record { id = refl; size = refl; metadata = refl; company = refl; large = refl; no_bank = refl; uri = refl; delete_active = refl; delete_broken = refl; delete_unknown = refl }
+refused_uploads_is = record { id = refl; size = refl; metadata = refl; company = refl; large = refl; no_bank = refl; uri = refl; start_active = refl; start_broken = refl; delete_active = refl; delete_broken = refl; delete_unknown = refl }
 
 pub phase_by_phase_is : PhaseByPhase
 unfolding word_at octets_at opcode_at pattern_at
@@ -40,6 +40,10 @@ nothing_is_lost_is = record { applied = refl; progress = refl; image = refl; lis
 pub verification_ends_is : VerificationEnds
 unfolding word_at octets_at opcode_at pattern_at
 verification_ends_is = record { asks = refl; row_stands = refl; verify_only = refl; then_applies = refl; verify_and_apply = refl; applies = refl; only_success = refl; success_applying = refl; success_completed = refl; other_version = refl; other_distribution = refl; failed_afterwards = refl; seen_failed = refl }
+
+pub confirmations_is : Confirmations
+unfolding word_at octets_at opcode_at pattern_at
+confirmations_is = record { waits = refl; unconfirmed = refl; unconfirmed_row = refl; confirmed = refl; confirmed_row = refl; suspended = refl }
 
 pub many_receivers_is : ManyReceivers
 unfolding word_at octets_at opcode_at pattern_at

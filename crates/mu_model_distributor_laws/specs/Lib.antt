@@ -3,6 +3,7 @@ pub mod Planned
 pub mod RowMoves
 pub mod RunLaws
 pub mod RowsTold
+pub mod Lists
 pub mod Scenes
 pub mod Worked
 pub mod WorkedUploads

@@ -1,11 +1,13 @@
 -- Worked rows: how a verification ends, and records that are long.
-use Rattle.std.specs.Prelude.{ℕ, ◌≡◌, ◌++◌, List, [], ◌∷◌, length, map, replicate}
+use Rattle.std.specs.Prelude.{ℕ, ◌≡◌, ◌*◌, ◌++◌, List, [], ◌∷◌, length, map, replicate}
 use Rattle.std.specs.List.{flat_map, range_with_len}
 use Rattle.mu_model_node.specs.Safe.{Happening}
+use Rattle.mu_model_distributor.specs.declared.DistPhase.TheVariants.{ApplyingUpdate, TransferSuspended}
 use Rattle.mu_model_distributor.specs.DistState.{DistState}
 use Rattle.mu_model_distributor.specs.Receivers.{new_receiver, with_receivers}
 use Rattle.mu_model_distributor.specs.DistEvents.{dist_work}
 use Rattle.mu_model_distributor_laws.specs.Scenes.{stocked_one, heard, said, told, time_passes, after, answers, sends_at, seen, receivers_add, receivers_delete_all, distribution_start_of, distribution_apply, receivers_status}
+use Rattle.mu_model_distributor_laws.specs.WorkedPhases.{found}
 use Rattle.mu_model_distributor_laws.specs.WorkedRun.{metadata_status, update_status, information_status, rows_seen}
 
 -- a distribution with an octet of mode and policy, whose receiver says at the Update Start that it has verified the image already, so
@@ -44,6 +46,23 @@ pub record VerificationEnds : Type 0 where
   -- answered 4, and Verification Failed afterwards: no row is verified, so the distribution fails and asks nobody to apply
   pub failed_afterwards : sends_at 5 stocked_one (up_to_verify 5 ++ told (update_status 4 1) ∷ told (update_status 5 1) ∷ []) ≡ []
   pub seen_failed : seen (after stocked_one (up_to_verify 5 ++ told (update_status 4 1) ∷ told (update_status 5 1) ∷ time_passes 5 ∷ [])) ≡ 7 ∷ 5 ∷ 0 ∷ 0 ∷ 1 ∷ 1 ∷ 2 ∷ []
+
+-- ---- confirmations
+
+-- so much time passes that each round ends, so many times, without an answer
+abbrev pub silence : ℕ → List Happening
+silence n = map (λ k. time_passes (100000 * k)) (range_with_len 1 n)
+
+-- a boot found the distribution in Applying Update, with the row in Applying Update or in Apply Success
+pub record Confirmations : Type 0 where
+  pub waits : seen (after (found 6 ApplyingUpdate) (silence 2)) ≡ 4 ∷ 3 ∷ 0 ∷ 0 ∷ 1 ∷ 1 ∷ 0 ∷ []
+  -- nobody confirms: the row becomes Apply Failed, and so does the distribution
+  pub unconfirmed : seen (after (found 6 ApplyingUpdate) (silence 20)) ≡ 5 ∷ 5 ∷ 0 ∷ 0 ∷ 1 ∷ 1 ∷ 3 ∷ []
+  pub unconfirmed_row : rows_seen (after (found 6 ApplyingUpdate) (silence 20)) ≡ (2 ∷ 0 ∷ 9 ∷ 0 ∷ 0 ∷ []) ∷ []
+  pub confirmed : seen (after (found 8 ApplyingUpdate) (silence 20)) ≡ 5 ∷ 4 ∷ 0 ∷ 0 ∷ 1 ∷ 1 ∷ 3 ∷ []
+  pub confirmed_row : rows_seen (after (found 8 ApplyingUpdate) (silence 20)) ≡ (2 ∷ 0 ∷ 8 ∷ 0 ∷ 0 ∷ []) ∷ []
+  -- no client has a turn while the distribution is suspended
+  pub suspended : sends_at 100000 (found 10 TransferSuspended) [] ≡ []
 
 -- ---- long records
 

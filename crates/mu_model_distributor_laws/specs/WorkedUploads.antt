@@ -6,7 +6,7 @@ use Rattle.mu_model_node.specs.BlobServer.{server_phase, blob_number}
 use Rattle.mu_model_node.specs.Worked.{digest_abc, image_abc, metadata_at}
 use Rattle.mu_model_distributor.specs.DistState.{StoredImage, server_of}
 use Rattle.mu_model_distributor.specs.DistEvents.{stocked}
-use Rattle.mu_model_distributor_laws.specs.Scenes.{empty_one, stocked_one, said, time_passes, after, answers, seen, receivers_add, upload_get, upload_start, upload_start_of, upload_cancel, transfer_start, block_start, chunk, firmware_delete, firmware_delete_all, id_at, upload_status, no_upload, capabilities, capabilities_get}
+use Rattle.mu_model_distributor_laws.specs.Scenes.{empty_one, stocked_one, said, time_passes, after, answers, seen, receivers_add, upload_get, upload_start, upload_start_of, upload_cancel, transfer_start, block_start, chunk, firmware_delete, firmware_delete_all, id_at, upload_status, no_upload, idle_status, distribution_start, capabilities, capabilities_get}
 
 abbrev pub started : List Happening
 started = said (upload_start 5 3) ∷ []
@@ -64,6 +64,7 @@ pub record BrokenUploads : Type 0 where
   pub seen_resumed : seen (after empty_one (broken ++ said (upload_start 5 3) ∷ [])) ≡ 5 ∷ 0 ∷ 1 ∷ 1 ∷ 0 ∷ 0 ∷ 0 ∷ []
   -- or another takes its bank
   pub replaced : answers empty_one broken (upload_start 6 3) ≡ upload_status 0 1 0 ∷ []
+  pub last_bank : answers (stocked (stocked stocked_one image_abc) image_abc) broken (upload_start 6 3) ≡ upload_status 0 1 0 ∷ []
   -- after a boot it is broken off, and no record says so until the next
   pub seen_cut : seen (after empty_one cut) ≡ 3 ∷ 0 ∷ 2 ∷ 1 ∷ 0 ∷ 0 ∷ 0 ∷ []
   pub seen_cut_later : seen (after empty_one (cut ++ time_passes 20000 ∷ [])) ≡ 3 ∷ 0 ∷ 2 ∷ 1 ∷ 0 ∷ 0 ∷ 0 ∷ []
@@ -90,6 +91,9 @@ pub record RefusedUploads : Type 0 where
   pub large : answers empty_one [] (upload_start_of (1 ∷ 0x10 ∷ []) 40 ((1 ∷ 0x10 ∷ 0 ∷ 0 ∷ 3 ∷ 0 ∷ 0 ∷ 0 ∷ []) ++ digest_abc) (id_at 3)) ≡ no_upload 1 ∷ []
   pub no_bank : answers (stocked (stocked (stocked stocked_one image_abc) image_abc) image_abc) [] (upload_start 5 3) ≡ no_upload 1 ∷ []
   pub uri : answers empty_one [] ((0x83 ∷ 0x20 ∷ 0 ∷ []) ++ id_at 3) ≡ no_upload 9 ∷ []
+  -- no distribution starts while one comes; it does where one was broken off, which its record says
+  pub start_active : answers stocked_one (said (receivers_add 0) ∷ said (upload_start 5 3) ∷ []) (distribution_start 0) ≡ idle_status 8 ∷ []
+  pub start_broken : seen (after stocked_one (said (receivers_add 0) ∷ said (upload_start 5 3) ∷ CutPower ∷ said (distribution_start 0) ∷ [])) ≡ 5 ∷ 1 ∷ 2 ∷ 2 ∷ 1 ∷ 1 ∷ 3 ∷ []
   -- an image isn't deleted while an upload comes or was broken off
   pub delete_active : answers empty_one started (firmware_delete 3) ≡ ((0x83 ∷ 0x27 ∷ 8 ∷ 0 ∷ 0 ∷ 0xff ∷ 0xff ∷ []) ++ id_at 3) ∷ []
   pub delete_broken : answers empty_one broken firmware_delete_all ≡ (0x83 ∷ 0x27 ∷ 8 ∷ 0 ∷ 0 ∷ 0xff ∷ 0xff ∷ []) ∷ []

@@ -5,14 +5,15 @@ ghost use Rattle.mu_model_distributor_laws.specs.WorkedUploads.{AWholeUpload, Br
 ghost use Rattle.mu_model_distributor_laws.specs.WorkedPhases.{PhaseByPhase};
 ghost use Rattle.mu_model_distributor_laws.specs.WorkedRun.{ADistribution};
 ghost use Rattle.mu_model_distributor_laws.specs.WorkedSettle.{NothingIsLost};
-ghost use Rattle.mu_model_distributor_laws.specs.WorkedEnds.{VerificationEnds, ManyReceivers};
+ghost use Rattle.mu_model_distributor_laws.specs.WorkedEnds.{VerificationEnds, Confirmations, ManyReceivers};
 ghost use Rattle.mu_model_distributor_laws.specs.Laws.{EventsKeepStatesSound, BootsAreSound, PassedStatesAreSound, NewIsSound, StockedIsSound, OctetsSayInRange, StatesPassRising, WorkLeavesOldOrNew, WorkLeadsToTheNew, WorkIsBounded, RecordsAreLongByReceivers, RecordsSaySomething, LongIsPastTheEnd};
 ghost use Rattle.mu_model_distributor_laws.specs.Planned.{EventsKeepPlanned, BootsArePlanned, StartsAreOffered, CountersRise};
 ghost use Rattle.mu_model_distributor_laws.specs.RowMoves.{RowsMoveByCause};
 ghost use Rattle.mu_model_distributor_laws.specs.RowsTold.{OffersStand, RowsAreTold};
+ghost use Rattle.mu_model_distributor_laws.specs.Lists.{ListsShowRows, ListsAreTold};
 ghost use Rattle.mu_model_distributor_laws.specs.RunLaws.{RunsAreInOrder, NoNumberIsLost};
 
-use mu_model_wire::laws::{grammar_holds, reads_what_is_spelled};
+use mu_model_wire::laws::{canonical_is_read, grammar_holds, reads_what_is_spelled};
 
 /// The rules on a distributor's record hold in each state that it goes through, from each boot on.
 pub fn states_are_sound()
@@ -76,6 +77,16 @@ pub fn rows_are_told()
     mu_model_node::laws::states_are_sound();
 }
 
+/// The Receivers Lists of a distributor, read from their octets, show its rows, and so what its receivers told it.
+pub fn lists_are_told()
+    ensures rows { ListsShowRows }
+    ensures told { ListsAreTold }
+{
+    grammar_holds();
+    canonical_is_read();
+    mu_model_node::laws::states_are_sound();
+}
+
 /// Worked rows: what a distributor answers and is left with.
 pub fn worked_rows()
     ensures receivers_and_images { ReceiversAndImages }
@@ -86,5 +97,6 @@ pub fn worked_rows()
     ensures distribution { ADistribution }
     ensures nothing_is_lost { NothingIsLost }
     ensures verification_ends { VerificationEnds }
+    ensures confirmations { Confirmations }
     ensures many_receivers { ManyReceivers }
 {}

@@ -1,4 +1,4 @@
-use Rattle.mu_model_distributor_laws.proofs.Worked.{receivers_and_images_is, whole_upload_is, broken_uploads_is, refused_uploads_is, phase_by_phase_is, distribution_is, nothing_is_lost_is, verification_ends_is, many_receivers_is}
+use Rattle.mu_model_distributor_laws.proofs.Worked.{receivers_and_images_is, whole_upload_is, broken_uploads_is, refused_uploads_is, phase_by_phase_is, distribution_is, nothing_is_lost_is, verification_ends_is, confirmations_is, many_receivers_is}
 use Rattle.mu_model_distributor_laws.proofs.laws.worked_rows.Goals as goal
 
 pub returns-clause-receivers_and_images : goal.returns-clause-receivers_and_images
@@ -24,6 +24,9 @@ returns-clause-nothing_is_lost c = nothing_is_lost_is
 
 pub returns-clause-verification_ends : goal.returns-clause-verification_ends
 returns-clause-verification_ends c = verification_ends_is
+
+pub returns-clause-confirmations : goal.returns-clause-confirmations
+returns-clause-confirmations c = confirmations_is
 
 pub returns-clause-many_receivers : goal.returns-clause-many_receivers
 returns-clause-many_receivers c = many_receivers_is

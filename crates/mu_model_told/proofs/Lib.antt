@@ -1,0 +1,4 @@
+pub mod Numbers
+pub mod Read
+pub mod Told
+pub mod Sent
