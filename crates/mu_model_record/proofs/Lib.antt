@@ -13,4 +13,5 @@ pub mod FreeLemmas
 pub mod RunOfPages
 pub mod PartLemmas
 pub mod BlockLemmas
+pub mod JoinLemmas
 pub mod PropLemmas

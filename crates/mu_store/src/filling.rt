@@ -174,4 +174,90 @@ impl<F: Flash> Filling<F> {
             Err(stopped) => Err(stopped),
         }
     }
+
+    /// The tag of the present record.
+    pub fn tag(&self) -> &Tag
+        ensures { result.now ≡ (filling_record self.now).tag }
+    {
+        &self.base.fields.tag
+    }
+
+    /// The count of the present record.
+    pub fn count(&self) -> u32
+        ensures { result ≡ (filling_record self.now).count }
+    {
+        self.base.fields.count
+    }
+
+    /// How many banks there are, 2..4.
+    pub fn banks(&self) -> u8
+        ensures { result ≡ (filling_record self.now).number }
+    {
+        self.base.fields.number
+    }
+
+    /// The octets of a bank.
+    pub fn capacity(&self) -> u32
+        ensures { result ≡ 4096 * (filling_record self.now).pages }
+    {
+        4096 * self.base.fields.pages as u32
+    }
+
+    /// What the present record says of a bank. The bank is below `banks()`.
+    pub fn bank_state(&self, b: u8) -> BankState
+        requires { b < (filling_record self.now).number }
+        ensures { result ≡ entry_of (filling_record self.now) b }
+    {
+        self.base.fields.banks[b as usize]
+    }
+
+    /// The bank that is being filled.
+    pub fn bank(&self) -> u8
+        ensures { result ≡ filling_bank self.now }
+    {
+        self.bank
+    }
+
+    /// The octets of the image that fills it.
+    pub fn size(&self) -> u32
+        ensures { result ≡ filling_size self.now }
+    {
+        self.size
+    }
+
+    /// The log of its blocks, 12..14.
+    pub fn log(&self) -> u8
+        ensures { result ≡ filling_log self.now }
+    {
+        self.log
+    }
+
+    /// Whether block `i` is held. It is below 256.
+    pub fn held(&self, i: u16) -> bool
+        requires { i < 256 }
+        ensures { result ≡ slice_index_or (filling_flags self.now) i false }
+    {
+        self.held[i as usize]
+    }
+
+    /// How many slots after the present record's may still be written by this run, 0..3.
+    pub fn fresh(&self) -> u8
+        ensures { result ≡ filling_fresh self.now }
+    {
+        self.base.place.fresh
+    }
+
+    /// The flash that it owns.
+    pub fn flash(&self) -> &F
+        ensures { result.now ≡ filling_flash self.now }
+    {
+        &self.base.flash
+    }
+
+    /// The flash that it owned.
+    pub fn into_flash(self) -> F
+        ensures { result ≡ filling_flash self }
+    {
+        self.base.flash
+    }
 }

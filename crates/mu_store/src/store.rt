@@ -7,7 +7,7 @@ use crate::entries::{cleared, with_entry};
 use crate::faults::{Stopped, StoreFault};
 use crate::filling::Filling;
 use crate::marks::no_flags;
-use mu_outside::{Failed, Flash, Pattern, Plug};
+use mu_outside::Flash;
 use mu_record::{BankState, Record, Tag};
 
 /// A store of which no bank is being filled. It owns its flash.
