@@ -9,3 +9,4 @@ pub mod WorkedInitiator
 pub mod Fields
 pub mod Gone
 pub mod Wire
+pub mod Heard

@@ -1,9 +1,12 @@
 -- A client's messages on the wire: a node reads what a client writes.
-use Rattle.std.specs.Prelude.{◌≡◌, ◌<◌, ◌≤◌, ◌^◌, length, Some}
+use Rattle.std.specs.Prelude.{ℕ, ◌≡◌, ◌<◌, ◌≤◌, ◌^◌, length, Option, Some, None}
+use Rattle.mu_model_wire.specs.Spelling.{Fits}
+use Rattle.mu_model_wire.specs.Table.{rows}
 use Rattle.mu_model_node.specs.declared.Parameters.{Parameters}
-use Rattle.mu_model_node.specs.BlobMessages.{BlobRequest, TransferStart, TransferCancel, BlockStart, ChunkTransfer}
-use Rattle.mu_model_node.specs.UpdateMessages.{UpdateStart, UpdateRequest, InformationGet, MetadataCheck, StartUpdate}
-use Rattle.mu_model_node.specs.NodeMessages.{Request, OfUpdate, OfBlob, request_at}
+use Rattle.mu_model_node.specs.BlobMessages.{BlobRequest, TransferStart, TransferCancel, BlockStart, ChunkTransfer, BlobReply, TransferStatus}
+use Rattle.mu_model_node.specs.UpdateMessages.{UpdateStart, UpdateRequest, InformationGet, MetadataCheck, StartUpdate, UpdateReply, UpdateStatus}
+use Rattle.mu_model_node.specs.NodeMessages.{Request, OfUpdate, OfBlob, request_at, Reply, ByUpdate, ByBlob, message_of, reply_octets}
+use Rattle.mu_model_client.specs.Answers.{answer_at, heard}
 use Rattle.mu_model_client.specs.Packets.{request_octets}
 
 -- ---- the ranges of the grammar
@@ -47,3 +50,30 @@ InRange (OfBlob request) = BlobInRange request
 -- a node reads the octets of a client's message as that message
 abbrev pub RequestsAreRead : Type 0
 RequestsAreRead = (request : Request) → InRange request → request_at (request_octets request) ≡ Some request
+
+-- ---- and a client reads what a node replies
+
+-- what a status shows goes with its phase: a job unless the update phase is 0; a BLOB ID unless the BLOB phase is 0, parameters
+-- unless it is 0 or 1, and their mode is the one that is shown
+abbrev pub GoesWithPhase : ℕ → Option ℕ → Option Parameters → ℕ → Type 0
+GoesWithPhase means None None phase = phase ≡ 0
+GoesWithPhase means (Some id) None phase = phase ≡ 1
+GoesWithPhase means (Some id) (Some p) phase = (2 ≤ phase) × (p.mode ≡ means)
+GoesWithPhase means None (Some p) phase = ⊥
+
+abbrev pub UpdateIsWhole : UpdateReply → Type 0
+UpdateIsWhole (UpdateStatus status phase None) = phase ≡ 0
+UpdateIsWhole (UpdateStatus status phase (Some job)) = 1 ≤ phase
+UpdateIsWhole _ = Unit {0}
+
+abbrev pub BlobIsWhole : BlobReply → Type 0
+BlobIsWhole (TransferStatus status means phase id parameters missing) = GoesWithPhase means id parameters phase
+BlobIsWhole _ = Unit {0}
+
+abbrev pub IsWhole : Reply → Type 0
+IsWhole (ByUpdate reply) = UpdateIsWhole reply
+IsWhole (ByBlob reply) = BlobIsWhole reply
+
+-- in the ranges of the grammar, a client reads the octets of a node's reply as what the node says
+abbrev pub RepliesAreRead : Type 0
+RepliesAreRead = (reply : Reply) → Fits rows (message_of reply) → IsWhole reply → answer_at (reply_octets reply) ≡ Some (heard reply)
