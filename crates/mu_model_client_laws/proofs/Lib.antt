@@ -8,3 +8,5 @@ pub mod Worked
 pub mod WorkedInitiator
 pub mod Fields
 pub mod Gone
+pub mod Wire
+pub mod Heard
