@@ -4,3 +4,4 @@ pub mod Told
 pub mod Sent
 pub mod Runs
 pub mod Reached
+pub mod AllSent

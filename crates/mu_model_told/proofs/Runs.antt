@@ -54,7 +54,7 @@ run_in_order events boots work config s (h ∷ hs) fits k = run_in_order events 
 
 -- ---- the log
 
-in_left : {xs log : List LogEntry} (more : List LogEntry) → InOrder xs log → InOrder xs (log ++ more)
+pub in_left : {xs log : List LogEntry} (more : List LogEntry) → InOrder xs log → InOrder xs (log ++ more)
 in_left more none = none
 in_left more (here h) = here (in_left more h)
 in_left more (later h) = later (in_left more h)
@@ -63,7 +63,7 @@ in_right : {xs more : List LogEntry} (log : List LogEntry) → InOrder xs more �
 in_right [] h = h
 in_right (x ∷ log) h = later (in_right log h)
 
-more_reached : (d : NodeDurable) (log more : List LogEntry) (id phase : ℕ) → WasReached d log id phase → WasReached d (log ++ more) id phase
+pub more_reached : (d : NodeDurable) (log more : List LogEntry) (id phase : ℕ) → WasReached d log id phase → WasReached d (log ++ more) id phase
 more_reached d log more id phase (inl h) = inl (in_left more h)
 more_reached d log more id phase (inr h) = inr h
 

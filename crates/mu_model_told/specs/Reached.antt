@@ -7,8 +7,8 @@ use Rattle.mu_model_node.specs.declared.NodeConfig.{NodeConfig}
 use Rattle.mu_model_node.specs.Events.{NodeEvent, node_step}
 use Rattle.mu_model_node.specs.Laws.{EventFits}
 use Rattle.mu_model_node.specs.Log.{LogEntry, Reached}
-use Rattle.mu_model_node.specs.NodeState.{Job, NodeDurable, update_number, update_phase, restarted}
-use Rattle.mu_model_node.specs.Safe.{Happening, Done, CutPower, Torn, InOrder, ImageIsSafe, found, state_after, log_after}
+use Rattle.mu_model_node.specs.NodeState.{Job, NodeDurable, NodeState, update_number, update_phase, restarted}
+use Rattle.mu_model_node.specs.Safe.{Happening, Done, CutPower, Torn, InOrder, ImageIsSafe, found, happened, state_after, log_after}
 use Rattle.mu_model_node.specs.Sound.{IsNodeDurable}
 use Rattle.mu_model_node.specs.UpdateMessages.{UpdateReply, InformationStatus, UpdateStatus}
 use Rattle.mu_model_client.specs.Answers.{Answer, FromUpdate, answer_at}
@@ -49,3 +49,19 @@ ToldIsReached =
     → IsNodeDurable d → HasNumbers d.job → AllByRecursion HappeningFits hs → HappeningFits (Done event now)
     → AllByRecursion (λ (p : Packet). IsReached d (log_after config (restarted d) (hs ++ Done event now ∷ [])) (answer_at p.payload))
     (node_step config (state_after config (restarted d) hs) event now).sent
+
+-- ---- all that is sent
+
+-- a torn event would have sent what is lost
+abbrev pub sent_by : NodeConfig → NodeState → Happening → List Packet
+sent_by config s (Done event now) = (node_step config s event now).sent
+sent_by config s _ = []
+
+abbrev pub sent_in : NodeConfig → NodeState → List Happening → List Packet
+sent_in config s [] = []
+sent_in config s (h ∷ hs) = sent_by config s h ++ sent_in config (happened config s h) hs
+
+abbrev pub SentIsReached : Type 0
+SentIsReached =
+    (config : NodeConfig) (d : NodeDurable) (hs : List Happening) → IsNodeDurable d → HasNumbers d.job → AllByRecursion HappeningFits hs
+    → AllByRecursion (λ (p : Packet). IsReached d (log_after config (restarted d) hs) (answer_at p.payload)) (sent_in config (restarted d) hs)

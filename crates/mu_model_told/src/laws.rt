@@ -1,7 +1,7 @@
 //! Laws of the definitions: functions that do nothing, whose contracts are proved.
 
 ghost use Rattle.mu_model_told.specs.Laws.{NumbersStay, OctetsSayNumbers, ToldIsSo};
-ghost use Rattle.mu_model_told.specs.Reached.{ToldIsReached};
+ghost use Rattle.mu_model_told.specs.Reached.{SentIsReached, ToldIsReached};
 
 use mu_model_wire::laws::{canonical_is_read, grammar_holds, reads_what_is_spelled};
 
@@ -25,7 +25,8 @@ pub fn told_is_so()
 
 /// Whatever comes to a node and whenever the power goes, what it tells, read from its octets, was reached by then.
 pub fn told_is_reached()
-    ensures { ToldIsReached }
+    ensures event { ToldIsReached }
+    ensures all { SentIsReached }
 {
     grammar_holds();
     canonical_is_read();
