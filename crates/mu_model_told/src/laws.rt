@@ -1,6 +1,7 @@
 //! Laws of the definitions: functions that do nothing, whose contracts are proved.
 
 ghost use Rattle.mu_model_told.specs.Laws.{NumbersStay, OctetsSayNumbers, ToldIsSo};
+ghost use Rattle.mu_model_told.specs.Reached.{SentIsReached, ToldIsReached};
 
 use mu_model_wire::laws::{canonical_is_read, grammar_holds, reads_what_is_spelled};
 
@@ -20,4 +21,17 @@ pub fn told_is_so()
     grammar_holds();
     canonical_is_read();
     mu_model_image::laws::images();
+}
+
+/// Whatever comes to a node and whenever the power goes, what it tells, read from its octets, was reached by then.
+pub fn told_is_reached()
+    ensures event { ToldIsReached }
+    ensures all { SentIsReached }
+{
+    grammar_holds();
+    canonical_is_read();
+    mu_model_image::laws::images();
+    mu_model_node::laws::states_are_sound();
+    mu_model_node::laws::flash_work();
+    mu_model_node::laws::one_node_is_safe();
 }
