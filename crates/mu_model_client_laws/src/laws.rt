@@ -3,7 +3,7 @@
 ghost use Rattle.mu_model_client_laws.specs.Worked.{RepairsTheUnion, Completes, DropsTheSilent, DropsByStatus, DropsOthers};
 ghost use Rattle.mu_model_client_laws.specs.WorkedInitiator.{Initiates};
 ghost use Rattle.mu_model_client_laws.specs.Wire.{RequestsAreRead, RepliesAreRead};
-ghost use Rattle.mu_model_client_laws.specs.Laws.{AtMostSixteen, FieldsAreRead, PlansStay, TimeKeepsRanks, CancellingKeepsRanks, RowsRise, RowsChangeByCause, TimeChangesAtFive, ApplyingDropsNobody, DropsStay, GroupGetsTheUnion, EachGetsWhatItMisses, StepsSendTheirLists, BeginsSound, EventsKeepSound, ListsGoToActive};
+ghost use Rattle.mu_model_client_laws.specs.Laws.{AtMostSixteen, FieldsAreRead, NamedSetsAreReported, NamedSetsAreRead, PlansStay, TimeKeepsRanks, CancellingKeepsRanks, RowsRise, RowsChangeByCause, TimeChangesAtFive, ApplyingDropsNobody, DropsStay, GroupGetsTheUnion, EachGetsWhatItMisses, StepsSendTheirLists, BeginsSound, EventsKeepSound, ListsGoToActive};
 
 use mu_model_wire::laws::{canonical_is_read, grammar_holds};
 
@@ -26,6 +26,12 @@ pub fn replies_are_read()
 /// The bit field of a set of missing numbers is read as the set.
 pub fn fields_are_read()
     ensures { FieldsAreRead }
+{}
+
+/// A client reads in a report the set below a bound that the report names, where it names one.
+pub fn named_sets()
+    ensures named { NamedSetsAreReported }
+    ensures read { NamedSetsAreRead }
 {}
 
 /// What is sent, what for and to whom stays from the beginning on.
