@@ -1,6 +1,6 @@
 //! Laws of the client's definitions: functions that do nothing, whose contracts are proved.
 
-ghost use Rattle.mu_model_client_laws.specs.Worked.{RepairsTheUnion, Completes, DropsTheSilent, DropsByStatus, DropsOthers};
+ghost use Rattle.mu_model_client_laws.specs.Worked.{RepairsTheUnion, Completes, DropsTheSilent, DropsByStatus, DropsOthers, GoesOn};
 ghost use Rattle.mu_model_client_laws.specs.WorkedInitiator.{Initiates};
 ghost use Rattle.mu_model_client_laws.specs.Wire.{RequestsAreRead, RepliesAreRead};
 ghost use Rattle.mu_model_client_laws.specs.Laws.{AtMostSixteen, FieldsAreRead, NamedSetsAreReported, NamedSetsAreRead, PlansStay, TimeKeepsRanks, CancellingKeepsRanks, RowsRise, RowsChangeByCause, TimeChangesAtFive, ApplyingDropsNobody, DropsStay, GroupGetsTheUnion, EachGetsWhatItMisses, StepsSendTheirLists, BeginsSound, EventsKeepSound, ListsGoToActive};
@@ -83,10 +83,12 @@ pub fn clients_are_sound()
     ensures events { EventsKeepSound }
 {}
 
-/// Worked rows: chunks that two receivers miss are sent again, and an update that is answered in every step succeeds.
+/// Worked rows: chunks that two receivers miss are sent again, an update that is answered in every step succeeds, and with whom a
+/// client goes on after a boot.
 pub fn worked_rows()
     ensures repairs { RepairsTheUnion }
     ensures completes { Completes }
+    ensures goes_on { GoesOn }
 {}
 
 /// Worked rows: each way in which a receiver is dropped, and what its row shows then.
