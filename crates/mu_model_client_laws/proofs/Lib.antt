@@ -10,3 +10,4 @@ pub mod Fields
 pub mod Gone
 pub mod Wire
 pub mod Heard
+pub mod Named

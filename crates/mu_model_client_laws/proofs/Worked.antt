@@ -1,6 +1,6 @@
 -- Worked rows, evaluated.
 use Rattle.std.proofs.Common.{refl}
-use Rattle.mu_model_client_laws.specs.Worked.{RepairsTheUnion, Completes, DropsTheSilent, DropsByStatus, DropsOthers}
+use Rattle.mu_model_client_laws.specs.Worked.{RepairsTheUnion, Completes, DropsTheSilent, DropsByStatus, DropsOthers, GoesOn}
 
 pub repairs : RepairsTheUnion
 repairs = record { grouped = refl; alone = refl }
@@ -44,3 +44,6 @@ refusals = record {
 
 pub others : DropsOthers
 others = record { barren = refl; four = refl; transfer_error = refl; verification_failed = refl; verifying = refl }
+
+pub goes_on : GoesOn
+goes_on = record { transfer = refl; verified = refl; applying = refl; canceling = refl; rows_stay = refl; sent = refl; stages = refl }

@@ -1,5 +1,5 @@
 -- What holds of every client.
-use Rattle.std.specs.Prelude.{ℕ, ◌≡◌, ◌≤◌, ◌<◌, ◌+◌, ◌⊎◌, ◌==◌, ◌&&◌, max, Bool, true, false, List, [], ◌∷◌, ◌++◌, length, map, filter, take, drop, Some, if◌then◌else◌, ⊤}
+use Rattle.std.specs.Prelude.{ℕ, ◌≡◌, ◌≤◌, ◌<◌, ◌+◌, ◌⊎◌, ◌==◌, ◌&&◌, max, Bool, true, false, List, [], ◌∷◌, ◌++◌, length, map, filter, take, drop, Some, if◌then◌else◌, ⊤, is_some}
 use Rattle.std.specs.List.{list_any, flat_map, AllByRecursion}
 use Rattle.mu_model_image.specs.declared.Meta.{Meta}
 use Rattle.mu_model_image.specs.Meta.{firmware_id, own_company}
@@ -8,8 +8,9 @@ use Rattle.mu_model_node.specs.UpdateMessages.{ShownJob, InformationStatus, Upda
 use Rattle.mu_model_client.specs.declared.Sending.{Sending}
 use Rattle.mu_model_client.specs.declared.Plan.{Plan}
 use Rattle.mu_model_client.specs.declared.Stage.{Stage}
-use Rattle.mu_model_client.specs.Sets.{below, set_of_field}
-use Rattle.mu_model_wire.specs.Reports.{bit_field}
+use Rattle.mu_model_client.specs.Sets.{below, set_of_field, named_set}
+use Rattle.mu_model_wire.specs.declared.reports.Report.{Report}
+use Rattle.mu_model_wire.specs.Reports.{bit_field, Reports, NamesASet}
 use Rattle.mu_model_client.specs.Answers.{Answer, FromUpdate}
 use Rattle.mu_model_client.specs.Rows.{Row, rank, is_reported, apply_success, apply_failed, phase_unknown, transfer_canceled, row_after}
 use Rattle.mu_model_client.specs.Client.{Step, Chunks, Cancel, Receiver, is_active, Item, Says, Sends, Place, At, Verified, Client, rows, chunk_total, round_time, Apply}
@@ -238,3 +239,15 @@ ListsGoToActive = (c : Client) (image : List ℕ) (now : ℕ) → IsSound c → 
 -- the bit field of a set is read as the set
 abbrev pub FieldsAreRead : Type 0
 FieldsAreRead = (set : List Bool) → set_of_field (length set) (bit_field set) ≡ Some set
+
+-- a report that is read as a set below n names that set
+pub record IsNamed (n : ℕ) (report : Report) (set : List Bool) : Type 0 where
+  pub bound : length set ≡ n
+  pub reports : Reports report set
+
+abbrev pub NamedSetsAreReported : Type 0
+NamedSetsAreReported = (n : ℕ) (report : Report) (set : List Bool) → named_set n report ≡ Some set → IsNamed n report set
+
+-- and every report that names a set below n is read
+abbrev pub NamedSetsAreRead : Type 0
+NamedSetsAreRead = (n : ℕ) (report : Report) → NamesASet report n → is_some (named_set n report) ≡ true

@@ -1,5 +1,5 @@
 -- Worked rows: what a client sends, and how each drop of the client's table comes and is shown.
-use Rattle.std.specs.Prelude.{ℕ, zero, suc, ◌≡◌, ◌+◌, ◌*◌, Bool, true, false, List, [], ◌∷◌, ◌++◌, map, replicate, Option, Some, None}
+use Rattle.std.specs.Prelude.{ℕ, zero, suc, ◌≡◌, ◌+◌, ◌*◌, Bool, true, false, List, [], ◌∷◌, ◌++◌, map, replicate, Option, Some, None, length}
 use Rattle.mu_model_image.specs.declared.Meta.{Meta}
 use Rattle.mu_model_image.specs.Meta.{firmware_id, own_company}
 use Rattle.mu_model_wire.specs.declared.reports.Report.{Report}
@@ -12,11 +12,11 @@ use Rattle.mu_model_client.specs.declared.Sending.{Sending}
 use Rattle.mu_model_client.specs.declared.Dropped.{Dropped}
 use Rattle.mu_model_client.specs.declared.Dropped.TheVariants.{Silent, Status, Barren, Phase}
 use Rattle.mu_model_client.specs.declared.Stage.{Stage}
-use Rattle.mu_model_client.specs.declared.Stage.TheVariants.{Applying as StageApplying, Ended as StageEnded}
+use Rattle.mu_model_client.specs.declared.Stage.TheVariants.{Transfer as StageTransfer, Verified as StageVerified, Applying as StageApplying, Canceling as StageCanceling, Ended as StageEnded}
 use Rattle.mu_model_client.specs.Answers.{own_limits, InformationIs, TransferIs, BlockIs, Answer, FromUpdate, FromBlob}
 use Rattle.mu_model_client.specs.Rows.{Row}
-use Rattle.mu_model_client.specs.Client.{Receiver, Client, rows}
-use Rattle.mu_model_client.specs.Begin.{start, start_blob, take_cancel, stage_of, cause_of}
+use Rattle.mu_model_client.specs.Client.{Receiver, Client, rows, is_active}
+use Rattle.mu_model_client.specs.Begin.{start, start_blob, take_cancel, stage_of, cause_of, resume}
 use Rattle.mu_model_client.specs.Told.{told}
 use Rattle.mu_model_client.specs.Due.{due}
 use Rattle.mu_model_client_laws.specs.Laws.{ClientEvent, Time, Packet}
@@ -246,3 +246,39 @@ pub record DropsOthers : Type 0 where
   pub verification_failed : refused 1 at_verify (update_status 0 5) ≡ ended_with (5 ∷ 0 ∷ 0 ∷ 100 ∷ []) (Some (Phase 5))
   -- while it verifies it isn't silent
   pub verifying : drops_of (after image (update 1) (at_verify ++ (rounds 4 ++ (update_status 0 3 ∷ Time 20500 ∷ [])))) ≡ None ∷ []
+
+-- ---- going on after a boot
+
+abbrev pub row_in : (phase update_status transfer_status : ℕ) → Row
+row_in phase update_status transfer_status =
+    record { address = 2; index = 0; phase = phase; update_status = update_status; transfer_status = transfer_status; progress = 40 }
+
+-- each phase once, and a row with each status
+abbrev pub all_rows : List Row
+all_rows =
+    row_in 10 0 0 ∷ row_in 1 0 0 ∷ row_in 2 0 0 ∷ row_in 3 0 0 ∷ row_in 4 0 0 ∷ row_in 5 0 0 ∷ row_in 6 0 0 ∷ row_in 7 0 0 ∷ row_in 8 0 0 ∷ row_in 9 0 0
+    ∷ row_in 2 5 0 ∷ row_in 2 0 7 ∷ []
+
+abbrev pub resumed_at : Stage → Client
+resumed_at stage = resume (record { sending = sending 1; meta = offered; apply = true }) all_rows stage
+
+abbrev pub active_in : Stage → List Bool
+active_in stage = map is_active (resumed_at stage).receivers
+
+-- how many packets the first time event sends
+abbrev pub first_packets : Stage → ℕ
+first_packets stage = length (due (resumed_at stage) image 0).packets
+
+-- whom it goes on with, and what it sends; rows stay as they are, progress included
+pub record GoesOn : Type 0 where
+  pub transfer :
+      active_in StageTransfer ≡ true ∷ true ∷ true ∷ true ∷ true ∷ false ∷ true ∷ false ∷ false ∷ false ∷ false ∷ false ∷ []
+  pub verified :
+      active_in StageVerified ≡ false ∷ false ∷ false ∷ false ∷ true ∷ false ∷ true ∷ false ∷ false ∷ false ∷ false ∷ false ∷ []
+  pub applying :
+      active_in StageApplying ≡ false ∷ false ∷ false ∷ false ∷ true ∷ false ∷ true ∷ false ∷ false ∷ false ∷ false ∷ false ∷ []
+  pub canceling :
+      active_in StageCanceling ≡ false ∷ false ∷ false ∷ false ∷ false ∷ false ∷ false ∷ false ∷ false ∷ false ∷ false ∷ false ∷ []
+  pub rows_stay : rows (resumed_at StageTransfer) ≡ all_rows
+  pub sent : map first_packets (StageTransfer ∷ StageVerified ∷ StageApplying ∷ StageCanceling ∷ StageEnded ∷ []) ≡ 6 ∷ 0 ∷ 2 ∷ 1 ∷ 0 ∷ []
+  pub stages : map (λ stage. stage_of (resumed_at stage)) (StageTransfer ∷ StageVerified ∷ StageApplying ∷ StageCanceling ∷ StageEnded ∷ []) ≡ StageTransfer ∷ StageVerified ∷ StageApplying ∷ StageCanceling ∷ StageEnded ∷ []

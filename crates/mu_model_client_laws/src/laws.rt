@@ -1,9 +1,9 @@
 //! Laws of the client's definitions: functions that do nothing, whose contracts are proved.
 
-ghost use Rattle.mu_model_client_laws.specs.Worked.{RepairsTheUnion, Completes, DropsTheSilent, DropsByStatus, DropsOthers};
+ghost use Rattle.mu_model_client_laws.specs.Worked.{RepairsTheUnion, Completes, DropsTheSilent, DropsByStatus, DropsOthers, GoesOn};
 ghost use Rattle.mu_model_client_laws.specs.WorkedInitiator.{Initiates};
 ghost use Rattle.mu_model_client_laws.specs.Wire.{RequestsAreRead, RepliesAreRead};
-ghost use Rattle.mu_model_client_laws.specs.Laws.{AtMostSixteen, FieldsAreRead, PlansStay, TimeKeepsRanks, CancellingKeepsRanks, RowsRise, RowsChangeByCause, TimeChangesAtFive, ApplyingDropsNobody, DropsStay, GroupGetsTheUnion, EachGetsWhatItMisses, StepsSendTheirLists, BeginsSound, EventsKeepSound, ListsGoToActive};
+ghost use Rattle.mu_model_client_laws.specs.Laws.{AtMostSixteen, FieldsAreRead, NamedSetsAreReported, NamedSetsAreRead, PlansStay, TimeKeepsRanks, CancellingKeepsRanks, RowsRise, RowsChangeByCause, TimeChangesAtFive, ApplyingDropsNobody, DropsStay, GroupGetsTheUnion, EachGetsWhatItMisses, StepsSendTheirLists, BeginsSound, EventsKeepSound, ListsGoToActive};
 
 use mu_model_wire::laws::{canonical_is_read, grammar_holds};
 
@@ -26,6 +26,12 @@ pub fn replies_are_read()
 /// The bit field of a set of missing numbers is read as the set.
 pub fn fields_are_read()
     ensures { FieldsAreRead }
+{}
+
+/// A client reads in a report the set below a bound that the report names, where it names one.
+pub fn named_sets()
+    ensures named { NamedSetsAreReported }
+    ensures read { NamedSetsAreRead }
 {}
 
 /// What is sent, what for and to whom stays from the beginning on.
@@ -77,10 +83,12 @@ pub fn clients_are_sound()
     ensures events { EventsKeepSound }
 {}
 
-/// Worked rows: chunks that two receivers miss are sent again, and an update that is answered in every step succeeds.
+/// Worked rows: chunks that two receivers miss are sent again, an update that is answered in every step succeeds, and with whom a
+/// client goes on after a boot.
 pub fn worked_rows()
     ensures repairs { RepairsTheUnion }
     ensures completes { Completes }
+    ensures goes_on { GoesOn }
 {}
 
 /// Worked rows: each way in which a receiver is dropped, and what its row shows then.
