@@ -6,9 +6,9 @@ use Rattle.mu_model_image.specs.Meta.{firmware_id, own_company}
 use Rattle.mu_model_wire.specs.Packet.{Packet}
 use Rattle.mu_model_node.specs.declared.NodeConfig.{NodeConfig}
 use Rattle.mu_model_node.specs.Events.{NodeEvent, PacketComes}
-use Rattle.mu_model_node.specs.Log.{LogEntry}
+use Rattle.mu_model_node.specs.Log.{LogEntry, Reached}
 use Rattle.mu_model_node.specs.NodeState.{NodeDurable, restarted as node_restarted}
-use Rattle.mu_model_node.specs.Safe.{Happening, Done, Torn, log_after}
+use Rattle.mu_model_node.specs.Safe.{Happening, Done, Torn, InOrder as LogOrder, log_after}
 use Rattle.mu_model_node.specs.Sound.{IsNodeDurable}
 use Rattle.mu_model_client.specs.Answers.{Answer}
 use Rattle.mu_model_client.specs.Rows.{Row, is_reported, transfer_canceled, apply_success, apply_failed, phase_unknown}
@@ -115,4 +115,27 @@ abbrev pub ListsAreReached : Type 0
 ListsAreReached =
     (b : Both) (event : NodeEvent) (now : ℕ) → AreBoth b → EventFits event
     → AllByRecursion (λ (p : Packet). ListIsReached b (list_at p.payload))
+    (dist_step b.address (state_after b.address (restarted b.address b.distributor) b.to_distributor) event now).sent
+
+-- ---- from new ones on
+
+-- where nothing was found, each phase that isn't a verdict stands in the node's log
+pub data IsShownTruly (b : Both) (r : Receiver) : Type 0 where
+  ruled : ((r.phase ≡ transfer_canceled) ⊎ ((r.phase ≡ apply_failed) ⊎ (r.phase ≡ phase_unknown))) → IsShownTruly b r
+  logged : is_reported r.phase ≡ true → LogOrder (Reached (transfer_id b.address (durable_of b)) r.phase ∷ []) (log_of b) → IsShownTruly b r
+  updated : (phase : ℕ) → r.phase ≡ apply_success → is_reported phase ≡ true → LogOrder (Reached (transfer_id b.address (durable_of b)) phase ∷ []) (log_of b)
+      → HasOffered b (transfer_id b.address (durable_of b)) r.index → IsShownTruly b r
+
+-- a distributor without receivers and a node without a job, as each is when it is made
+abbrev pub AreNew : Both → Type 0
+AreNew b = (b.distributor.receivers ≡ []) × (b.node.job ≡ None)
+
+abbrev pub ListIsTrue : Both → Option (List Row) → Type 0
+ListIsTrue b None = Unit {0}
+ListIsTrue b (Some shown) = AllByRecursion (λ (row : Row). row.address ≡ b.config.address → IsShownTruly b (receiver_of row)) shown
+
+abbrev pub NewListsAreTrue : Type 0
+NewListsAreTrue =
+    (b : Both) (event : NodeEvent) (now : ℕ) → AreBoth b → AreNew b → EventFits event
+    → AllByRecursion (λ (p : Packet). ListIsTrue b (list_at p.payload))
     (dist_step b.address (state_after b.address (restarted b.address b.distributor) b.to_distributor) event now).sent
