@@ -6,3 +6,7 @@ pub mod Sound
 pub mod Chunks
 pub mod Worked
 pub mod WorkedInitiator
+pub mod Fields
+pub mod Gone
+pub mod Wire
+pub mod Heard

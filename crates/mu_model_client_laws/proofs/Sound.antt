@@ -1,5 +1,5 @@
 -- Sound clients, and what time changes of their receivers.
-use Rattle.std.proofs.Common.{◌≡◌, ◌≤◌, ◌+◌, ◌==◌, ℕ, List, [], ◌∷◌, refl, sym, ◌∙◌, subst, true, false, Bool, Option, Some, None, arith, map}
+use Rattle.std.proofs.Common.{◌≡◌, ◌⊎◌, inl, inr, ap, ◌≤◌, ◌+◌, ◌==◌, ℕ, List, [], ◌∷◌, refl, sym, ◌∙◌, subst, true, false, Bool, Option, Some, None, arith, map}
 use Rattle.std.specs.Prelude.{nat_le, nat_lt, if◌then◌else◌}
 use Rattle.std.specs.List.{AllByRecursion}
 use Rattle.std.proofs.lemmas.Bool.Decides.{nat_tests}
@@ -12,7 +12,7 @@ use Rattle.mu_model_client.specs.Told as t
 use Rattle.mu_model_client.specs.Told.{told}
 use Rattle.mu_model_client.specs.Due as d
 use Rattle.mu_model_client.specs.Due.{Due, due}
-use Rattle.mu_model_client_laws.specs.Laws.{Each, IsVerdict, RowRises, RankRises, AsBefore, TimeChanges, nothing, fifth, may_pend, IsAsked, IsSound, BeginSound, EventsSound}
+use Rattle.mu_model_client_laws.specs.Laws.{Each, IsVerdict, RowRises, RankRises, StandsAsBefore, AsBefore, TimeChanges, nothing, fifth, may_pend, IsAsked, IsSound, BeginSound, EventsSound}
 use Rattle.mu_model_client_laws.proofs.Cases.{IsCounted, Counted, counted_as, Ways, each_way}
 use Rattle.mu_model_client_laws.proofs.Fated as f
 use Rattle.mu_model_client_laws.proofs.Rising.{Rises, same_rises, cause_rises, of_answer, both_left, rank_most}
@@ -343,3 +343,28 @@ time_ranks c image now h = each_from (TimeChanges c now) RankRises (change_rank 
 
 pub cancel_ranks : (c : Client) → Each RankRises c.receivers (b.take_cancel c).receivers
 cancel_ranks c = each_map RankRises b.canceled (λ r. record { rank_kept = canceled_rank r.row (nat_lt (rank r.row.phase) 5) }) c.receivers
+
+-- ---- applying and cancelling
+
+step_in : Place → Step
+step_in (At step) = step
+step_in _ = Check
+
+same_step : (step other : Step) → At step ≡ At other → step ≡ other
+unfolding step_in
+same_step step other e = ap step_in e
+
+stays_in : (r : Receiver) (step : Step) → (step ≡ Apply) ⊎ (step ≡ Cancel) → (d.fell_silent r step).standing ≡ r.standing
+stays_in r step (inl e) = subst (λ x. (d.fell_silent r x).standing ≡ r.standing) (sym e) refl
+stays_in r step (inr e) = subst (λ x. (d.fell_silent r x).standing ≡ r.standing) (sym e) refl
+
+which_step : (place : Place) (step : Step) → place ≡ At step → (place ≡ At Apply) ⊎ (place ≡ At Cancel) → (step ≡ Apply) ⊎ (step ≡ Cancel)
+which_step place step e (inl h) = inl (same_step step Apply (sym e ∙ h))
+which_step place step e (inr h) = inr (same_step step Cancel (sym e ∙ h))
+
+change_stays : (c : Client) (now : ℕ) → (c.place ≡ At Apply) ⊎ (c.place ≡ At Cancel) → (r s : Receiver) → TimeChanges c now r s → StandsAsBefore r s
+change_stays c now h r s (nothing a) = record { standing_same = a.standing_same }
+change_stays c now h r s (fifth step at_ p n over a) = record { standing_same = a.standing_same ∙ stays_in r step (which_step c.place step at_ h) }
+
+pub applying_drops_nobody : (c : Client) (image : List ℕ) (now : ℕ) → IsSound c → (c.place ≡ At Apply) ⊎ (c.place ≡ At Cancel) → Each StandsAsBefore c.receivers (due c image now).next.receivers
+applying_drops_nobody c image now h place = each_from (TimeChanges c now) StandsAsBefore (change_stays c now place) c.receivers (due c image now).next.receivers (time_changes c image now h)

@@ -8,10 +8,11 @@ use Rattle.mu_model_node.specs.UpdateMessages.{ShownJob, InformationStatus, Upda
 use Rattle.mu_model_client.specs.declared.Sending.{Sending}
 use Rattle.mu_model_client.specs.declared.Plan.{Plan}
 use Rattle.mu_model_client.specs.declared.Stage.{Stage}
-use Rattle.mu_model_client.specs.Sets.{below}
+use Rattle.mu_model_client.specs.Sets.{below, set_of_field}
+use Rattle.mu_model_wire.specs.Reports.{bit_field}
 use Rattle.mu_model_client.specs.Answers.{Answer, FromUpdate}
 use Rattle.mu_model_client.specs.Rows.{Row, rank, is_reported, apply_success, apply_failed, phase_unknown, transfer_canceled, row_after}
-use Rattle.mu_model_client.specs.Client.{Step, Chunks, Cancel, Receiver, is_active, Item, Says, Sends, Place, At, Verified, Client, rows, chunk_total, round_time}
+use Rattle.mu_model_client.specs.Client.{Step, Chunks, Cancel, Receiver, is_active, Item, Says, Sends, Place, At, Verified, Client, rows, chunk_total, round_time, Apply}
 use Rattle.mu_model_client.specs.Begin.{start, start_blob, resume, take_apply, take_cancel}
 use Rattle.mu_model_client.specs.Told.{told}
 use Rattle.mu_model_client.specs.Lists.{chunk_items, lacks_chunk, missing_of, sent_for}
@@ -138,6 +139,26 @@ TimeKeepsRanks = (c : Client) (image : List ℕ) (now : ℕ) → IsSound c → E
 abbrev pub CancellingKeepsRanks : Type 0
 CancellingKeepsRanks = (c : Client) → Each RankRises c.receivers (take_cancel c).receivers
 
+-- a receiver that isn't active stays as it stands, whatever comes: who was dropped is dropped for good
+pub record StaysGone (before after : Receiver) : Type 0 where
+  pub stays : is_active before ≡ false → after.standing ≡ before.standing
+
+pub record DropsAreForGood : Type 0 where
+  pub tells : (c : Client) (from : ℕ) (answer : Answer) (now : ℕ) → IsSound c → Each StaysGone c.receivers (told c from answer now).receivers
+  pub dues : (c : Client) (image : List ℕ) (now : ℕ) → IsSound c → Each StaysGone c.receivers (due c image now).next.receivers
+
+abbrev pub DropsStay : Type 0
+DropsStay = DropsAreForGood
+
+-- while applying and cancelling, time drops nobody
+pub record StandsAsBefore (before after : Receiver) : Type 0 where
+  pub standing_same : after.standing ≡ before.standing
+
+abbrev pub ApplyingDropsNobody : Type 0
+ApplyingDropsNobody =
+    (c : Client) (image : List ℕ) (now : ℕ) → IsSound c → (c.place ≡ At Apply) ⊎ (c.place ≡ At Cancel)
+    → Each StandsAsBefore c.receivers (due c image now).next.receivers
+
 abbrev pub TimeChangesAtFive : Type 0
 TimeChangesAtFive =
     (c : Client) (image : List ℕ) (now : ℕ) → IsSound c → Each (TimeChanges c now) c.receivers (due c image now).next.receivers
@@ -211,3 +232,9 @@ pub data MakesList (c : Client) (image : List ℕ) (d : Due) : Type 0 where
 -- each list that is made goes to receivers that are active then
 abbrev pub ListsGoToActive : Type 0
 ListsGoToActive = (c : Client) (image : List ℕ) (now : ℕ) → IsSound c → MakesList c image (due c image now)
+
+-- ---- sets
+
+-- the bit field of a set is read as the set
+abbrev pub FieldsAreRead : Type 0
+FieldsAreRead = (set : List Bool) → set_of_field (length set) (bit_field set) ≡ Some set

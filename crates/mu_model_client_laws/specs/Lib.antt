@@ -1,3 +1,4 @@
 pub mod Laws
 pub mod Worked
 pub mod WorkedInitiator
+pub mod Wire

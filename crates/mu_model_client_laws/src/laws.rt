@@ -2,7 +2,31 @@
 
 ghost use Rattle.mu_model_client_laws.specs.Worked.{RepairsTheUnion, Completes, DropsTheSilent, DropsByStatus, DropsOthers};
 ghost use Rattle.mu_model_client_laws.specs.WorkedInitiator.{Initiates};
-ghost use Rattle.mu_model_client_laws.specs.Laws.{AtMostSixteen, PlansStay, TimeKeepsRanks, CancellingKeepsRanks, RowsRise, RowsChangeByCause, TimeChangesAtFive, GroupGetsTheUnion, EachGetsWhatItMisses, StepsSendTheirLists, BeginsSound, EventsKeepSound, ListsGoToActive};
+ghost use Rattle.mu_model_client_laws.specs.Wire.{RequestsAreRead, RepliesAreRead};
+ghost use Rattle.mu_model_client_laws.specs.Laws.{AtMostSixteen, FieldsAreRead, PlansStay, TimeKeepsRanks, CancellingKeepsRanks, RowsRise, RowsChangeByCause, TimeChangesAtFive, ApplyingDropsNobody, DropsStay, GroupGetsTheUnion, EachGetsWhatItMisses, StepsSendTheirLists, BeginsSound, EventsKeepSound, ListsGoToActive};
+
+use mu_model_wire::laws::{canonical_is_read, grammar_holds};
+
+/// A node reads what a client writes.
+pub fn requests_are_read()
+    ensures { RequestsAreRead }
+{
+    grammar_holds();
+    canonical_is_read();
+}
+
+/// A client reads what a node replies.
+pub fn replies_are_read()
+    ensures { RepliesAreRead }
+{
+    grammar_holds();
+    canonical_is_read();
+}
+
+/// The bit field of a set of missing numbers is read as the set.
+pub fn fields_are_read()
+    ensures { FieldsAreRead }
+{}
 
 /// What is sent, what for and to whom stays from the beginning on.
 pub fn plans_stay()
@@ -25,7 +49,13 @@ pub fn rows()
 
 /// Nobody is dropped as Silent before five silent rounds of a step, and nobody at all for silence while applying or cancelling.
 pub fn silence()
-    ensures { TimeChangesAtFive }
+    ensures fifth { TimeChangesAtFive }
+    ensures applying { ApplyingDropsNobody }
+{}
+
+/// Who was dropped is dropped for good.
+pub fn drops_stay()
+    ensures { DropsStay }
 {}
 
 /// Chunks in push are the union of what active receivers miss, in rising order: one packet each with a group, and one for each

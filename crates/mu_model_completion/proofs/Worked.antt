@@ -1,7 +1,7 @@
 -- Worked rows, evaluated.
 use Rattle.std.proofs.Common.{refl}
 use Rattle.sha2.specs.Sha256.{sha256, digest_bytes, hash_after, compress, rounds, schedule, first_words}
-use Rattle.mu_model_completion.specs.Worked.{OneNodeCompletes, EqualVersionEnds, FirstBlock}
+use Rattle.mu_model_completion.specs.Worked.{OneNodeCompletes, EqualVersionEnds, FirstBlock, ThreeComplete}
 
 pub one_node : OneNodeCompletes
 unfolding sha256 digest_bytes hash_after compress rounds schedule first_words
@@ -12,3 +12,7 @@ equal_version = record { row = refl; ended = refl }
 
 pub first_block : FirstBlock
 first_block = record { push_begun = refl; push = refl; pull_begun = refl; pull = refl }
+
+pub three : ThreeComplete
+unfolding sha256 digest_bytes hash_after compress rounds schedule first_words
+three = record { push = refl; push_before = refl; alone = refl; pull = refl }

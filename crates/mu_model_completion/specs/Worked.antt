@@ -91,3 +91,29 @@ pub record FirstBlock : Type 0 where
   pub push : held (settle 7 (updater_64 1 ∷ three_nodes)) ≡ 1 ∷ 1 ∷ 1 ∷ []
   pub pull_begun : held (settle 8 (updater_64 2 ∷ three_nodes)) ≡ 0 ∷ 0 ∷ 0 ∷ []
   pub pull : held (settle 9 (updater_64 2 ∷ three_nodes)) ≡ 1 ∷ 1 ∷ 1 ∷ []
+
+-- ---- three receivers, whole
+
+abbrev pub updater_three : (mode group : ℕ) → Member
+updater_three mode group = record {
+  config = record { address = 1; group = group };
+  moment = 0;
+  part = IsUpdater (start (record {
+    sending = record { from = 1; id = 0x0001_0000_0000_0007; size = 3; log = 12; chunk = 200; mode = mode; group = group; ttl = 5; base = 0 };
+    meta = image_abc.meta;
+    apply = true;
+  }) ((2, 0) ∷ (3, 0) ∷ (4, 0) ∷ [])) image_abc.octets;
+}
+
+abbrev pub success : List ℕ
+success = 8 ∷ 0 ∷ 0 ∷ 100 ∷ []
+
+abbrev pub applying : List ℕ
+applying = 6 ∷ 0 ∷ 0 ∷ 100 ∷ []
+
+-- ten turns: seven, and three for the one block, with a group and without, in push and in pull
+pub record ThreeComplete : Type 0 where
+  pub push : all_rows (settle 10 (updater_three 1 0xC000 ∷ three_nodes)) ≡ success ∷ success ∷ success ∷ []
+  pub push_before : all_rows (settle 9 (updater_three 1 0xC000 ∷ three_nodes)) ≡ applying ∷ applying ∷ applying ∷ []
+  pub alone : all_rows (settle 10 (updater_three 1 0 ∷ three_nodes)) ≡ success ∷ success ∷ success ∷ []
+  pub pull : all_rows (settle 10 (updater_three 2 0xC000 ∷ three_nodes)) ≡ success ∷ success ∷ success ∷ []

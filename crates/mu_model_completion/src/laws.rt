@@ -1,10 +1,40 @@
 //! Laws on whole updates in which nothing is lost: functions that do nothing, whose contracts are proved.
 
-ghost use Rattle.mu_model_completion.specs.Worked.{OneNodeCompletes, EqualVersionEnds, FirstBlock};
+ghost use Rattle.mu_model_completion.specs.Completion.{PushCompletes, ThreeOver64KiB};
+ghost use Rattle.mu_model_completion.specs.Worked.{OneNodeCompletes, EqualVersionEnds, FirstBlock, ThreeComplete};
+
+use mu_model_client_laws::laws::{fields_are_read, plans_stay};
+use mu_model_image::laws::{blocks, chunks, images, metadata};
+
+/// In push all receivers have the image after so many turns, and from then on, where nothing is lost: seven turns for each sixteen
+/// receivers, and for each block two for each sixteen receivers and one for each sixteen chunks.
+pub fn push_completes()
+    ensures { PushCompletes }
+{
+    plans_stay();
+    fields_are_read();
+    metadata();
+    images();
+    blocks();
+    chunks();
+}
+
+/// Three receivers have 64 KiB after 71 turns, whatever the image.
+pub fn three_over_64_kib()
+    ensures { ThreeOver64KiB }
+{
+    plans_stay();
+    fields_are_read();
+    metadata();
+    images();
+    blocks();
+    chunks();
+}
 
 /// Worked rows: how many turns an update takes.
 pub fn worked_updates()
     ensures one_node { OneNodeCompletes }
     ensures equal_version { EqualVersionEnds }
     ensures first_block { FirstBlock }
+    ensures three { ThreeComplete }
 {}

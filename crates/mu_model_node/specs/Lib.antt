@@ -1,7 +1,3 @@
-pub mod Message
-pub mod Node
-pub mod Table
-pub mod Step
 pub mod Slots
 pub mod BlobMessages
 pub mod BlobServer

@@ -3,3 +3,15 @@ pub mod CodeLemmas
 pub mod PageLemmas
 pub mod SlotLemmas
 pub mod PlaceLemmas
+pub mod ControlLemmas
+pub mod FrameLemmas
+pub mod NextLemmas
+pub mod RecordLemmas
+pub mod ChangeLemmas
+pub mod KindLemmas
+pub mod FreeLemmas
+pub mod RunOfPages
+pub mod PartLemmas
+pub mod BlockLemmas
+pub mod JoinLemmas
+pub mod PropLemmas

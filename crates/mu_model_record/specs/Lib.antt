@@ -1,4 +1,11 @@
 pub mod Code
 pub mod Page
 pub mod Turns
+pub mod Record
+pub mod Store
+pub mod Free
+pub mod Represents
+pub mod Kinds
+pub mod Next
+pub mod Changes
 pub mod Laws

@@ -5,13 +5,15 @@ use Rattle.std.specs.Option.{option_map, option_and_then}
 use Rattle.hex.specs.Hex.{decode_of}
 use Rattle.hex.specs.declared.error.FromHexError.{FromHexError}
 use Rattle.hex.proofs.HexLemmas.{decode_of-ok}
+use Rattle.mu_model_flash.specs.declared.Pattern.{Pattern}
+use Rattle.mu_model_flash.specs.declared.Pattern.TheVariants.{Old as OldBits, New as NewBits, Made as MadeBits}
 use Rattle.mu_model_script.specs.declared.LineFault.{LineFault}
 use Rattle.mu_model_script.specs.declared.LineWhy.TheVariants.{Long}
 use Rattle.mu_model_script.specs.Pieces.{Token, tokens_of, pieces}
-use Rattle.mu_model_script.specs.Tokens.{Content, Hex, Made, Kind, unicast, group_or_none, destination, number_in, octets_up_to, image, Value, Number, Octets, Image, value_of, if_address, address_of, is_unicast, is_group, number_of, octets_of, if_length, content_of, made_of, seed_and_size, hex_after, made_after, after_prefix}
-use Rattle.mu_model_script.specs.Event.{Event, Node, Say, Deliver, Active}
-use Rattle.mu_model_script.specs.Ranges.{IsWithin, IsUnicast, IsGroup, IsOctets, IsContent, IsInRange}
-use Rattle.mu_model_script.specs.Lines.{LineRow, node_row, say_row, deliver_row, active_row, line_rows, ◌>>=◌, or_refuse, refuse, Left, next_token, value_at, nothing_left, values_at, row_of, event_of, is_silent, some_event, line_event}
+use Rattle.mu_model_script.specs.Tokens.{Content, Hex, Made, Kind, unicast, group_or_none, destination, number_in, octets_up_to, image, pattern, Value, Number, Octets, Image, Bits, value_of, if_address, address_of, is_unicast, is_group, number_of, octets_of, if_length, content_of, made_of, seed_and_size, hex_after, made_after, after_prefix, pattern_of, seeded_bits}
+use Rattle.mu_model_script.specs.Event.{Event, Node, Pair, Old, Say, Deliver, Time, Cut, Tear, Active, Phase}
+use Rattle.mu_model_script.specs.Ranges.{IsWithin, IsUnicast, IsGroup, IsOctets, IsContent, IsPattern, IsNode, IsInRange}
+use Rattle.mu_model_script.specs.Lines.{LineRow, node_row, pair_row, old_row, say_row, deliver_row, time_row, cut_row, tear_row, active_row, phase_row, line_rows, ◌>>=◌, or_refuse, refuse, Left, next_token, value_at, nothing_left, values_at, row_of, event_of, is_silent, some_event, line_event}
 use Rattle.mu_model_script.proofs.Numbers.{number_of-some}
 
 -- ---- steps
@@ -37,6 +39,7 @@ IsSaid destination (Number address) = IsUnicast address ⊎ IsGroup address
 IsSaid (number_in least most) (Number n) = IsWithin least most n
 IsSaid (octets_up_to most) (Octets octets) = IsOctets most octets
 IsSaid image (Image content) = IsContent content
+IsSaid pattern (Bits left) = IsPattern left
 IsSaid _ _ = ⊥
 
 abbrev tested : {A : Type 0} → Bool → A → Option A
@@ -114,6 +117,29 @@ content_said text content h =
     let made = made_after (after_prefix (codes "made:") text) in
     hex_after_said (after_prefix (codes "hex:") text) made content (made_after_said (after_prefix (codes "made:") text) content) h
 
+seeded_said : (text : Option (List ℕ)) (left : Pattern) → seeded_bits text ≡ Some left → IsPattern left
+seeded_said (Some text) left h =
+    let m = mapped MadeBits (number_of 0 65535 text) left h in
+    let P : Pattern → Type 0 = IsPattern in
+    subst P m.2 (number_said 0 65535 m.0 text m.1)
+seeded_said None left h = cc h
+
+old_said : (left : Pattern) → Some OldBits ≡ Some left → IsPattern left
+old_said left h = let P : Pattern → Type 0 = IsPattern in subst P (let e : OldBits ≡ left = cc h in e) tt
+
+new_said : (left : Pattern) → Some NewBits ≡ Some left → IsPattern left
+new_said left h = let P : Pattern → Type 0 = IsPattern in subst P (let e : NewBits ≡ left = cc h in e) tt
+
+chosen_said : (none all : Bool) (made : Option Pattern) (left : Pattern) → (made ≡ Some left → IsPattern left) → cond none (Some OldBits) (cond all (Some NewBits) made) ≡ Some left → IsPattern left
+chosen_said true all made left other h = old_said left h
+chosen_said false true made left other h = new_said left h
+chosen_said false false made left other h = other h
+
+pattern_said : (text : List ℕ) (left : Pattern) → pattern_of text ≡ Some left → IsPattern left
+pattern_said text left h =
+    let seed = after_prefix (codes "made:") text in
+    chosen_said (bytes_eq text (codes "none")) (bytes_eq text (codes "all")) (seeded_bits seed) left (seeded_said seed left) h
+
 value_said : (kind : Kind) (text : List ℕ) (value : Value) → value_of kind text ≡ Some value → IsSaid kind value
 value_said unicast text value h =
     let m = mapped Number (if_address is_unicast text) value h in
@@ -141,6 +167,10 @@ value_said image text value h =
     let m = mapped Image (content_of text) value h in
     let P : Value → Type 0 = IsSaid image in
     subst P m.2 (content_said text m.0 m.1)
+value_said pattern text value h =
+    let m = mapped Bits (pattern_of text) value h in
+    let P : Value → Type 0 = IsSaid pattern in
+    subst P m.2 (pattern_said text m.0 m.1)
 
 -- ---- rows
 
@@ -183,6 +213,21 @@ node_says (Number address ∷ Number group ∷ Number pages ∷ Number version �
     subst P is (said.0, said.1.0, said.1.1.0, said.1.1.1.0, said.1.1.1.1.0)
 node_says _ event said h = cc h
 
+pair_says : SaysInRange pair_row
+pair_says (Number address ∷ Number group ∷ Number pages ∷ Number version ∷ Image content ∷ Number second_version ∷ Image second_content ∷ []) event said h =
+    let is : Pair address group pages version content second_version second_content ≡ event = cc h in
+    let P : Event → Type 0 = IsInRange in
+    let first : IsNode address group pages version content = (said.0, said.1.0, said.1.1.0, said.1.1.1.0, said.1.1.1.1.0) in
+    subst P is (first, said.1.1.1.1.1.0, said.1.1.1.1.1.1.0)
+pair_says _ event said h = cc h
+
+old_says : SaysInRange old_row
+old_says (Number address ∷ Number group ∷ Number pages ∷ Number version ∷ Image content ∷ []) event said h =
+    let is : Old address group pages version content ≡ event = cc h in
+    let P : Event → Type 0 = IsInRange in
+    subst P is (said.0, said.1.0, said.1.1.0, said.1.1.1.0, said.1.1.1.1.0)
+old_says _ event said h = cc h
+
 say_says : SaysInRange say_row
 say_says (Number from ∷ Number to ∷ Octets payload ∷ []) event said h =
     let is : Say from to payload ≡ event = cc h in
@@ -197,12 +242,40 @@ deliver_says (Number packet ∷ Number address ∷ []) event said h =
     subst P is (said.0, said.1.0)
 deliver_says _ event said h = cc h
 
+time_says : SaysInRange time_row
+time_says (Number address ∷ Number ms ∷ []) event said h =
+    let is : Time address ms ≡ event = cc h in
+    let P : Event → Type 0 = IsInRange in
+    subst P is (said.0, said.1.0)
+time_says _ event said h = cc h
+
+cut_says : SaysInRange cut_row
+cut_says (Number address ∷ []) event said h =
+    let is : Cut address ≡ event = cc h in
+    let P : Event → Type 0 = IsInRange in
+    subst P is said.0
+cut_says _ event said h = cc h
+
+tear_says : SaysInRange tear_row
+tear_says (Number address ∷ Number number ∷ Bits left ∷ []) event said h =
+    let is : Tear address number left ≡ event = cc h in
+    let P : Event → Type 0 = IsInRange in
+    subst P is (said.0, said.1.0, said.1.1.0)
+tear_says _ event said h = cc h
+
 active_says : SaysInRange active_row
 active_says (Number address ∷ []) event said h =
     let is : Active address ≡ event = cc h in
     let P : Event → Type 0 = IsInRange in
     subst P is said.0
 active_says _ event said h = cc h
+
+phase_says : SaysInRange phase_row
+phase_says (Number address ∷ []) event said h =
+    let is : Phase address ≡ event = cc h in
+    let P : Event → Type 0 = IsInRange in
+    subst P is said.0
+phase_says _ event said h = cc h
 
 abbrev EveryRow : (LineRow → Type 0) → List LineRow → Type 0
 EveryRow P [] = Unit {0}
@@ -218,7 +291,7 @@ row_of-every P (first ∷ rows) word row every h =
     ] h
 
 every_row : EveryRow SaysInRange line_rows
-every_row = (node_says, (say_says, (deliver_says, (active_says, tt))))
+every_row = (node_says, (pair_says, (old_says, (say_says, (deliver_says, (time_says, (cut_says, (tear_says, (active_says, (phase_says, tt))))))))))
 
 event_of-in_range : (left : Left) (event : Event) → event_of line_rows left ≡ Ok event → IsInRange event
 event_of-in_range left event h =

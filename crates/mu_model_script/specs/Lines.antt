@@ -4,8 +4,8 @@ use Rattle.mu_model_script.specs.declared.LineWhy.{LineWhy}
 use Rattle.mu_model_script.specs.declared.LineWhy.TheVariants.{Token as BadToken, Long}
 use Rattle.mu_model_script.specs.declared.LineFault.{LineFault}
 use Rattle.mu_model_script.specs.Pieces.{Token, tokens_of}
-use Rattle.mu_model_script.specs.Tokens.{Kind, unicast, group_or_none, destination, number_in, octets_up_to, image, Value, Number, Octets, Image, value_of}
-use Rattle.mu_model_script.specs.Event.{Event, Node, Say, Deliver, Active}
+use Rattle.mu_model_script.specs.Tokens.{Kind, unicast, group_or_none, destination, number_in, octets_up_to, image, pattern, Value, Number, Octets, Image, Bits, value_of}
+use Rattle.mu_model_script.specs.Event.{Event, Node, Pair, Old, Say, Deliver, Time, Cut, Tear, Active, Phase}
 
 -- a line's word, the kinds of the tokens behind it, and what it makes happen
 pub record LineRow : Type 0 where
@@ -17,6 +17,15 @@ abbrev pub node_event : List Value → Option Event
 node_event (Number address ∷ Number group ∷ Number pages ∷ Number version ∷ Image content ∷ []) = Some (Node address group pages version content)
 node_event _ = None
 
+abbrev pub pair_event : List Value → Option Event
+pair_event (Number address ∷ Number group ∷ Number pages ∷ Number version ∷ Image content ∷ Number second_version ∷ Image second_content ∷ []) =
+    Some (Pair address group pages version content second_version second_content)
+pair_event _ = None
+
+abbrev pub old_event : List Value → Option Event
+old_event (Number address ∷ Number group ∷ Number pages ∷ Number version ∷ Image content ∷ []) = Some (Old address group pages version content)
+old_event _ = None
+
 abbrev pub say_event : List Value → Option Event
 say_event (Number from ∷ Number to ∷ Octets payload ∷ []) = Some (Say from to payload)
 say_event _ = None
@@ -25,13 +34,42 @@ abbrev pub deliver_event : List Value → Option Event
 deliver_event (Number packet ∷ Number address ∷ []) = Some (Deliver packet address)
 deliver_event _ = None
 
+abbrev pub time_event : List Value → Option Event
+time_event (Number address ∷ Number ms ∷ []) = Some (Time address ms)
+time_event _ = None
+
+abbrev pub cut_event : List Value → Option Event
+cut_event (Number address ∷ []) = Some (Cut address)
+cut_event _ = None
+
+abbrev pub tear_event : List Value → Option Event
+tear_event (Number address ∷ Number number ∷ Bits left ∷ []) = Some (Tear address number left)
+tear_event _ = None
+
 abbrev pub active_event : List Value → Option Event
 active_event (Number address ∷ []) = Some (Active address)
 active_event _ = None
 
+abbrev pub phase_event : List Value → Option Event
+phase_event (Number address ∷ []) = Some (Phase address)
+phase_event _ = None
+
 -- node A G PAGES VERSION CONTENT
 abbrev pub node_row : LineRow
 node_row = record { word = codes "node"; kinds = unicast ∷ group_or_none ∷ number_in 1 256 ∷ number_in 0 4294967295 ∷ image ∷ []; event = node_event }
+
+-- pair A G PAGES VERSION CONTENT VERSION CONTENT
+abbrev pub pair_row : LineRow
+pair_row =
+    record {
+      word = codes "pair";
+      kinds = unicast ∷ group_or_none ∷ number_in 1 256 ∷ number_in 0 4294967295 ∷ image ∷ number_in 0 4294967295 ∷ image ∷ [];
+      event = pair_event;
+    }
+
+-- old A G PAGES VERSION CONTENT
+abbrev pub old_row : LineRow
+old_row = record { word = codes "old"; kinds = unicast ∷ group_or_none ∷ number_in 1 256 ∷ number_in 0 4294967295 ∷ image ∷ []; event = old_event }
 
 -- say F T HEX
 abbrev pub say_row : LineRow
@@ -41,12 +79,28 @@ say_row = record { word = codes "say"; kinds = unicast ∷ destination ∷ octet
 abbrev pub deliver_row : LineRow
 deliver_row = record { word = codes "deliver"; kinds = number_in 0 4294967295 ∷ unicast ∷ []; event = deliver_event }
 
+-- time A MS
+abbrev pub time_row : LineRow
+time_row = record { word = codes "time"; kinds = unicast ∷ number_in 0 9223372036854775807 ∷ []; event = time_event }
+
+-- cut A
+abbrev pub cut_row : LineRow
+cut_row = record { word = codes "cut"; kinds = unicast ∷ []; event = cut_event }
+
+-- tear A N PATTERN
+abbrev pub tear_row : LineRow
+tear_row = record { word = codes "tear"; kinds = unicast ∷ number_in 1 1000 ∷ pattern ∷ []; event = tear_event }
+
 -- active A
 abbrev pub active_row : LineRow
 active_row = record { word = codes "active"; kinds = unicast ∷ []; event = active_event }
 
+-- phase A
+abbrev pub phase_row : LineRow
+phase_row = record { word = codes "phase"; kinds = unicast ∷ []; event = phase_event }
+
 abbrev pub line_rows : List LineRow
-line_rows = node_row ∷ say_row ∷ deliver_row ∷ active_row ∷ []
+line_rows = node_row ∷ pair_row ∷ old_row ∷ say_row ∷ deliver_row ∷ time_row ∷ cut_row ∷ tear_row ∷ active_row ∷ phase_row ∷ []
 
 -- ---- reading
 

@@ -1,8 +1,10 @@
 -- What holds of every event that a line of a script says: its fields are in their ranges (this profile).
 use Rattle.std.specs.Prelude.{◌≡◌, ℕ, ◌≤◌, ◌⊎◌, List, length}
 use Rattle.hex.specs.Hex.{IsBytes}
+use Rattle.mu_model_flash.specs.declared.Pattern.{Pattern}
+use Rattle.mu_model_flash.specs.declared.Pattern.TheVariants.{Old as OldBits, New as NewBits, Made as MadeBits}
 use Rattle.mu_model_script.specs.Tokens.{Content, Hex, Made}
-use Rattle.mu_model_script.specs.Event.{Event, Node, Say, Deliver, Active}
+use Rattle.mu_model_script.specs.Event.{Event, Node, Pair, Old, Say, Deliver, Time, Cut, Tear, Active, Phase}
 
 abbrev pub IsWithin : ℕ → ℕ → ℕ → Type 0
 IsWithin least most n = (least ≤ n) × (n ≤ most)
@@ -21,8 +23,24 @@ abbrev pub IsContent : Content → Type 0
 IsContent (Hex octets) = IsOctets 1024 octets
 IsContent (Made seed size) = IsWithin 0 65535 seed × IsWithin 1 1048576 size
 
+abbrev pub IsPattern : Pattern → Type 0
+IsPattern OldBits = Unit {0}
+IsPattern NewBits = Unit {0}
+IsPattern (MadeBits seed) = IsWithin 0 65535 seed
+
+-- the fields that each line of a node has
+abbrev pub IsNode : (address group pages version : ℕ) → Content → Type 0
+IsNode address group pages version content = IsUnicast address × ((group ≡ 0) ⊎ IsGroup group) × IsWithin 1 256 pages × IsWithin 0 4294967295 version × IsContent content
+
 abbrev pub IsInRange : Event → Type 0
-IsInRange (Node address group pages version content) = IsUnicast address × ((group ≡ 0) ⊎ IsGroup group) × IsWithin 1 256 pages × IsWithin 0 4294967295 version × IsContent content
+IsInRange (Node address group pages version content) = IsNode address group pages version content
+IsInRange (Pair address group pages version content second_version second_content) =
+    IsNode address group pages version content × IsWithin 0 4294967295 second_version × IsContent second_content
+IsInRange (Old address group pages version content) = IsNode address group pages version content
 IsInRange (Say from to payload) = IsUnicast from × (IsUnicast to ⊎ IsGroup to) × IsOctets 380 payload
 IsInRange (Deliver packet address) = IsWithin 0 4294967295 packet × IsUnicast address
+IsInRange (Time address ms) = IsUnicast address × IsWithin 0 9223372036854775807 ms
+IsInRange (Cut address) = IsUnicast address
+IsInRange (Tear address number pattern) = IsUnicast address × IsWithin 1 1000 number × IsPattern pattern
 IsInRange (Active address) = IsUnicast address
+IsInRange (Phase address) = IsUnicast address

@@ -29,6 +29,14 @@ unread_text number address = text_line (codes "unread" ∷ decimal number ∷ ad
 abbrev pub active_text : (address version size : ℕ) (digest : List ℕ) → List ℕ
 active_text address version size digest = text_line (codes "active" ∷ address_text address ∷ decimal version ∷ decimal size ∷ encode_lower digest ∷ [])
 
+-- boot A COUNT HELD: the record's count, and how many blocks of a bank in filling are held, else 0
+abbrev pub boot_text : (address count held : ℕ) → List ℕ
+boot_text address count held = text_line (codes "boot" ∷ address_text address ∷ decimal count ∷ decimal held ∷ [])
+
+-- phase A UPDATE BLOB of a node
+abbrev pub phase_text : (address first second : ℕ) → List ℕ
+phase_text address first second = text_line (codes "phase" ∷ address_text address ∷ decimal first ∷ decimal second ∷ [])
+
 abbrev pub line_word : LineWhy → List ℕ
 line_word Token = codes "token"
 line_word Long = codes "long"

@@ -1,11 +1,13 @@
 -- The kinds of tokens, with their ranges, and what a token says (this profile).
-use Rattle.std.specs.Prelude.{ℕ, ◌+◌, ◌-◌, ◌*◌, ◌==◌, ◌&&◌, ◌||◌, not, nat_eq, nat_le, Bool, List, [], ◌∷◌, length, drop, slice_index, codes, Option, Some, None, Result, Ok, Err, if◌then◌else◌}
+use Rattle.std.specs.Prelude.{ℕ, ◌+◌, ◌-◌, ◌*◌, ◌==◌, ◌&&◌, ◌||◌, not, nat_eq, nat_le, Bool, List, [], ◌∷◌, length, drop, slice_index, codes, bytes_eq, Option, Some, None, Result, Ok, Err, if◌then◌else◌}
 use Rattle.std.specs.List.{starts_with, list_all}
 use Rattle.std.specs.Option.{option_map, option_and_then}
 use Rattle.std.specs.Char.{is_ascii_digit}
 use Rattle.std.specs.Int.{w16, from_be_bytes}
 use Rattle.hex.specs.Hex.{decode_of, decode_sized}
 use Rattle.hex.specs.declared.error.FromHexError.{FromHexError}
+use Rattle.mu_model_flash.specs.declared.Pattern.{Pattern}
+use Rattle.mu_model_flash.specs.declared.Pattern.TheVariants.{Old as OldBits, New as NewBits, Made as MadeBits}
 use Rattle.mu_model_script.specs.Pieces.{pieces}
 
 -- an image as a script gives it: its octets, or the octets that a seed makes
@@ -26,12 +28,15 @@ pub data Kind : Type 0 where
   octets_up_to : (most : ℕ) → Kind
   -- an image: `hex:` with 1..1024 octets, or `made:SEED:SIZE`
   image : Kind
+  -- what a torn operation leaves of its range: `none` or `all` of its bits new, or those that `made:SEED` picks
+  pattern : Kind
 
 -- what a token says
 pub data Value : Type 0 where
   Number : ℕ → Value
   Octets : List ℕ → Value
   Image : Content → Value
+  Bits : Pattern → Value
 
 abbrev pub if_within : ℕ → ℕ → ℕ → Option ℕ
 if_within least most n = if nat_le least n && nat_le n most then Some n else None
@@ -106,6 +111,18 @@ hex_after None otherwise = otherwise
 abbrev pub content_of : List ℕ → Option Content
 content_of text = hex_after (after_prefix (codes "hex:") text) (made_after (after_prefix (codes "made:") text))
 
+-- ---- patterns
+
+abbrev pub seeded_bits : Option (List ℕ) → Option Pattern
+seeded_bits (Some seed) = option_map MadeBits (number_of 0 65535 seed)
+seeded_bits None = None
+
+abbrev pub pattern_of : List ℕ → Option Pattern
+pattern_of text =
+    if bytes_eq text (codes "none") then Some OldBits
+    else if bytes_eq text (codes "all") then Some NewBits
+    else seeded_bits (after_prefix (codes "made:") text)
+
 -- ---- any token
 
 abbrev pub value_of : Kind → List ℕ → Option Value
@@ -115,3 +132,4 @@ value_of destination octets = option_map Number (if_address (λ a. is_unicast a 
 value_of (number_in least most) octets = option_map Number (number_of least most octets)
 value_of (octets_up_to most) octets = option_map Octets (octets_of most octets)
 value_of image octets = option_map Image (content_of octets)
+value_of pattern octets = option_map Bits (pattern_of octets)

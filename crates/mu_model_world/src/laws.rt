@@ -2,7 +2,7 @@
 
 ghost use Rattle.mu_model_world.specs.Laws.{TraceIsAlone, RefusedHasNoTrace};
 
-/// A script has one trace or a refused line, and not both.
+/// A script in which no tear leaves made bits has one trace or a refused line, and not both.
 pub fn runs()
     ensures alone { TraceIsAlone }
     ensures refused { RefusedHasNoTrace }

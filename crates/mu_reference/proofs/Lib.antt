@@ -5,5 +5,5 @@ pub mod Answered
 pub mod Received
 pub mod Images
 pub mod Ids
-pub mod Ran
-pub mod Fresh
+pub mod Lacking
+pub mod Shown

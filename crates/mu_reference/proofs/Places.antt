@@ -1,7 +1,11 @@
 -- Steps of the loops over places.
-use Rattle.std.proofs.Common.{◌≡◌, ◌<◌, ℕ, zero, suc, ◌+◌, Bool, true, false, List, [], ◌∷◌, ◌++◌, length, take, set, replicate, get_or, refl, sym, ap, ◌∙◌, cond, arith, Option, Some, None, append_assoc, append-nil, add-one}
-use Rattle.std.specs.Prelude.{is_none}
-use Rattle.mu_model_node.specs.Slots.{Slots, missing, joined}
+use Rattle.std.proofs.Common.{◌≡◌, ◌<◌, ℕ, zero, suc, ◌+◌, Bool, true, false, List, [], ◌∷◌, ◌++◌, length, take, set, replicate, get_or, refl, sym, ap, ◌∙◌, cond, arith, Option, Some, None, append_assoc, append-nil, add-one, ◌⊎◌, inl, inr}
+use Rattle.std.specs.Prelude.{◌≢◌, ◌==◌, is_none}
+use Rattle.std.proofs.lemmas.Bool.Decides.{nat_tests}
+use Rattle.std.proofs.lemmas.List.{get_or-set_other}
+use Rattle.std.proofs.lemmas.Grind.{get_or-set_at}
+use Rattle.std.proofs.Math.ListN.{length-set}
+use Rattle.mu_model_node.specs.Slots.{Slots, put, missing, joined}
 use Rattle.mu_reference.specs.Words.{piece_at}
 
 joined_suc : (slots : Slots) (i : ℕ) (d : Option (List ℕ)) → i < length slots → joined (take (suc i) slots) ≡ joined (take i slots) ++ piece_at (get_or slots i d)
@@ -14,6 +18,21 @@ joined_suc (Some octets ∷ slots) (suc i) d h =
 
 pub joined_more : (slots : Slots) (i : ℕ) (d : Option (List ℕ)) → i < length slots → joined (take (i + 1) slots) ≡ joined (take i slots) ++ piece_at (get_or slots i d)
 joined_more slots i d h = rw add-one (joined_suc slots i d h)
+
+same_or_other : (i k : ℕ) → (i ≡ k) ⊎ (i ≢ k)
+same_or_other i k = grind arith
+
+piece_put : (slots : Slots) (k i : ℕ) (octets : List ℕ) (d : Option (List ℕ)) → i < length slots → piece_at (get_or (set slots k (Some octets)) i d) ≡ cond (i == k) octets (piece_at (get_or slots i d))
+piece_put slots k i octets d h =
+    elim (same_or_other i k) [
+      | inl e ↦ let test : (i == k) ≡ true = grind (arith, nat_tests) in rw test (ap piece_at (get_or-set_at slots k i (Some octets) d e (omega arith)))
+      | inr ne ↦ let test : (i == k) ≡ false = grind (arith, nat_tests) in rw test (ap piece_at (get_or-set_other slots k i (Some octets) d ne))
+    ]
+
+pub joined_put : (slots : Slots) (k i : ℕ) (octets : List ℕ) (d : Option (List ℕ)) → i < length slots → joined (take (i + 1) (put slots k octets)) ≡ joined (take i (put slots k octets)) ++ cond (i == k) octets (piece_at (get_or slots i d))
+joined_put slots k i octets d h =
+    let within : i < length (put slots k octets) = simp length-set h in
+    joined_more (put slots k octets) i d within ∙ ap (λ more. joined (take i (put slots k octets)) ++ more) (piece_put slots k i octets d h)
 
 -- what is noted of the first i places; the others aren't noted yet
 pub noted : Slots → ℕ → List Bool

@@ -1,14 +1,17 @@
 -- What the functions of the BLOB table return, as the model's outcomes.
-use Rattle.std.specs.Prelude.{ℕ, ◌≡◌, ◌<◌, List, length, Option, None, Some}
+use Rattle.std.specs.Prelude.{ℕ, ◌≡◌, ◌<◌, true, false, List, [], length, Option, None, Some, if◌then◌else◌}
 use Rattle.mu_model_node.specs.declared.Parameters.{Parameters}
-use Rattle.mu_model_node.specs.BlobServer.{CurrentBlock, Session, unlinked, heard_at, linked, Server, BlobPhase, NextChunk, Change, Same, Begins, Drops}
-use Rattle.mu_model_node.specs.BlobTable.{Served, silently, tell, tell_block, receives, completes, to_client}
+use Rattle.mu_model_node.specs.BlobServer.{CurrentBlock, Session, unlinked, heard_at, linked, Server, BlobPhase, NextChunk, Change, Same, Begins, Drops, Puts}
+use Rattle.mu_model_node.specs.BlobTable.{Served, silently, tell, tell_block, receives, is_pull, to_client}
 use Rattle.mu_model_node.specs.NodeState.{Job, NodeState}
-use Rattle.mu_model_node.specs.Slots.{empty, put}
+use Rattle.mu_model_node.specs.NodeOutcome.{with_session}
+use Rattle.mu_model_node.specs.Slots.{empty, at, put, is_full, joined}
 use Rattle.mu_reference.specs.View.{session_of, serving_of}
 use Rattle.mu_reference.specs.declared.blob_table.Server.{Server as ServerHere}
+use Rattle.mu_reference.specs.declared.blob_table.LinkChange.{LinkChange}
+use Rattle.mu_reference.specs.declared.blob_table.LinkChange.TheVariants.{Keeps, Hears, Links, Unlinks}
 use Rattle.mu_reference.specs.declared.blob_table.SessionChange.{SessionChange}
-use Rattle.mu_reference.specs.declared.blob_table.SessionChange.TheVariants.{Keeps, Hears, Links, Unlinks, Holds, Opens}
+use Rattle.mu_reference.specs.declared.blob_table.SessionChange.TheVariants.{Link, Holds, Opens}
 use Rattle.mu_reference.specs.declared.blob_table.TransferChange.{TransferChange}
 use Rattle.mu_reference.specs.declared.blob_table.TransferChange.TheVariants.{Nothing, Begin, Drop}
 use Rattle.mu_reference.specs.declared.blob_table.Told.{Told}
@@ -22,11 +25,14 @@ abbrev pub server_of : ServerHere → Server
 server_of v = record { capacity = v.capacity; serving = serving_of v.serving; session = session_of v.session.now; now = v.now }
 
 -- a session after a change, at a moment, by a packet's source
+abbrev pub link_by : LinkChange → ℕ → ℕ → Session → Session
+link_by Keeps now from l = l
+link_by Hears now from l = heard_at now l
+link_by Links now from l = linked now from l
+link_by Unlinks now from l = unlinked l
+
 abbrev pub session_by : SessionChange → ℕ → ℕ → Session → Session
-session_by Keeps now from l = l
-session_by Hears now from l = heard_at now l
-session_by Links now from l = linked now from l
-session_by Unlinks now from l = unlinked l
+session_by (Link change) now from l = link_by change now from l
 session_by (Holds block size) now from l = heard_at now (record l { last = Some (record { number = block; chunk_size = size }) })
 session_by (Opens block size count) now from l = heard_at now (record l { current = Some (record { number = block; chunk_size = size; chunks = empty count }); report = None })
 
@@ -36,7 +42,7 @@ change_by p Begin = Begins p
 change_by p Drop = Drops
 
 abbrev pub told_by : Server → ℕ → Parameters → Told → Served
-told_by v to p told = tell v (session_by told.session v.now to v.session) (change_by p told.change) to told.status
+told_by v to p told = tell v (link_by told.link v.now to v.session) (change_by p told.change) to told.status
 
 abbrev pub block_told_by : Server → ℕ → BlockTold → Served
 block_told_by v to told = tell_block (session_by told.session v.now to v.session) to told.status told.block told.chunk_size told.report
@@ -47,9 +53,9 @@ chunk_stepped v chunk octets phase Hear = silently (heard_at v.now v.session)
 chunk_stepped v chunk octets (NextChunk t p c) (Receive q) = receives (heard_at v.now v.session) q c (put c.chunks chunk octets)
 chunk_stepped v chunk octets _ (Receive q) = silently v.session
 
--- a chunk is received only where one is waited for, with these parameters and of such a number
+-- a chunk is received only where one is waited for, with these parameters, of such a number, and none is there yet
 abbrev pub ReceivesWithin : ℕ → BlobPhase → ChunkStep → Type 0
-ReceivesWithin chunk (NextChunk t p c) (Receive q) = (p ≡ q) × (chunk < length c.chunks)
+ReceivesWithin chunk (NextChunk t p c) (Receive q) = (p ≡ q) × (chunk < length c.chunks) × (at c.chunks chunk ≡ None)
 ReceivesWithin chunk _ (Receive q) = ⊥
 ReceivesWithin chunk _ _ = Unit {0}
 
@@ -61,10 +67,24 @@ received_with s p chunk octets (Some c) = receives (heard_at s.moment s.session)
 abbrev pub received_by : NodeState → Parameters → ℕ → List ℕ → Served
 received_by s p chunk octets = received_with s p chunk octets s.session.current
 
--- there is the block, with such a chunk, and the job, with such a block
+-- there is the block, which lacks such a chunk, and the job, which lacks such a block
 abbrev pub HasPlace : ℕ → Option CurrentBlock → Option Job → Type 0
-HasPlace chunk (Some c) (Some j) = (chunk < length c.chunks) × (c.number < length j.held)
+HasPlace chunk (Some c) (Some j) = (chunk < length c.chunks) × (at c.chunks chunk ≡ None) × (c.number < length j.held) × (at j.held c.number ≡ None)
 HasPlace chunk _ _ = ⊥
+
+-- with this chunk the block is whole, and these are its octets; or it isn't
+abbrev pub IsLastChunk : ℕ → List ℕ → Option CurrentBlock → Option (List ℕ) → Type 0
+IsLastChunk chunk octets None block = ⊥
+IsLastChunk chunk octets (Some c) None = is_full (put c.chunks chunk octets) ≡ false
+IsLastChunk chunk octets (Some c) (Some block) = (is_full (put c.chunks chunk octets) ≡ true) × (block ≡ joined (put c.chunks chunk octets))
+
+-- one more chunk is there
+abbrev pub kept_with : NodeState → ℕ → List ℕ → Option CurrentBlock → NodeState
+kept_with s chunk octets None = s
+kept_with s chunk octets (Some c) = with_session s (record (s.session) { current = Some (record c { chunks = put c.chunks chunk octets }) })
+
+abbrev pub kept_by : NodeState → ℕ → List ℕ → NodeState
+kept_by s chunk octets = kept_with s chunk octets s.session.current
 
 -- what is done as time passes
 abbrev pub time_stepped : Server → TimeStep → Served
@@ -76,14 +96,21 @@ time_stepped v (Ask chunks) = record {
   replies = to_client v.session.client chunks.items;
 }
 
--- what comes of a block whose chunks are all there
-abbrev pub completed_with : NodeState → Parameters → Option CurrentBlock → Served
-completed_with s p None = silently s.session
-completed_with s p (Some c) = completes s.session p c c.chunks
+-- what comes of a block that is whole
+abbrev pub block_put : Session → Parameters → CurrentBlock → List ℕ → Served
+block_put l p c block = record {
+  session = record l { current = None; last = Some (record { number = c.number; chunk_size = c.chunk_size }); report = None };
+  change = Puts c.number block;
+  replies = if is_pull p then to_client l.client [] else [];
+}
 
-abbrev pub completed_by : NodeState → Parameters → Served
-completed_by s p = completed_with s p s.session.current
+abbrev pub completed_with : NodeState → Parameters → List ℕ → Option CurrentBlock → Served
+completed_with s p block None = silently s.session
+completed_with s p block (Some c) = block_put s.session p c block
+
+abbrev pub completed_by : NodeState → Parameters → List ℕ → Served
+completed_by s p block = completed_with s p block s.session.current
 
 abbrev pub HasBlock : Option CurrentBlock → Option Job → Type 0
-HasBlock (Some c) (Some j) = c.number < length j.held
+HasBlock (Some c) (Some j) = (c.number < length j.held) × (at j.held c.number ≡ None)
 HasBlock _ _ = ⊥

@@ -1,8 +1,8 @@
 pub mod Words
 pub mod View
 pub mod Messages
+pub mod Fits
 pub mod BlobRows
 pub mod Outcomes
 pub mod UpdateRows
 pub mod NodeRows
-pub mod Reference

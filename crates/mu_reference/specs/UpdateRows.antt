@@ -9,19 +9,18 @@ use Rattle.mu_model_node.specs.NodeState.{Job, NodeState, UpdatePhase, Idle, Tra
 use Rattle.mu_model_node.specs.UpdateTable.{success, answer, takes, without_job}
 use Rattle.mu_model_node.specs.NodeOutcome.{Outcome, with_session, with_job}
 use Rattle.mu_model_node.specs.Events.{has_record, last_count}
-use Rattle.mu_reference.specs.Messages.{update_reply_of}
 use Rattle.mu_reference.specs.declared.recording.Stop.{Stop}
 use Rattle.mu_reference.specs.declared.recording.Stop.TheVariants.{NoMemory, Worn}
 use Rattle.mu_reference.specs.declared.update_table.Updated.{Updated}
 use Rattle.mu_reference.specs.declared.update_table.UpdateStep.{UpdateStep}
 use Rattle.mu_reference.specs.declared.update_table.UpdateStep.TheVariants.{MakeReady, Hear, Lose, Apply, Answer}
 
--- the node has done what the update table says, and answers to one address, or has stopped
+-- the node has done what the update table says, and answers to one address, or has stopped and is as it was
 abbrev pub UpdatedAs : NodeState → ℕ → Outcome → Result Updated Stop → NodeState → Type 0
 UpdatedAs s to o (Ok here) new =
-    (new ≡ o.next) × (((to, ByUpdate (update_reply_of here.reply)) ∷ []) ≡ o.replies) × (here.work ≡ o.work) × ((has_record o.work && (s.durable.count == last_count)) ≡ false)
-UpdatedAs s to o (Err Worn) new = (has_record o.work && (s.durable.count == last_count)) ≡ true
-UpdatedAs s to o (Err NoMemory) new = Unit {0}
+    (new ≡ o.next) × (((to, ByUpdate here.reply) ∷ []) ≡ o.replies) × (here.work ≡ o.work) × ((has_record o.work && (s.durable.count == last_count)) ≡ false)
+UpdatedAs s to o (Err Worn) new = ((has_record o.work && (s.durable.count == last_count)) ≡ true) × (new ≡ s)
+UpdatedAs s to o (Err NoMemory) new = new ≡ s
 
 -- the job that a phase has is the node's
 abbrev pub JobIs : UpdatePhase → Option Job → Type 0

@@ -1,15 +1,17 @@
 // What a node does with each BLOB message.
-ghost use Rattle.std.specs.Prelude.{ℕ, ◌≡◌};
+ghost use Rattle.std.specs.Prelude.{ℕ, ◌≡◌, ◌≤◌};
 ghost use Rattle.mu_model_node.specs.declared.Parameters.{Parameters};
 ghost use Rattle.mu_model_node.specs.BlobMessages.{BlobInformationGet, TransferGet, TransferStart, TransferCancel, BlockStart, BlockGet, ChunkTransfer};
+ghost use Rattle.mu_model_node.specs.BlobServer.{blob_number};
 ghost use Rattle.mu_model_node.specs.BlobTable.{transfer_status, on_blob};
 ghost use Rattle.mu_model_node.specs.NodeState.{server_of, blob_phase};
 ghost use Rattle.mu_model_node.specs.Sound.{AreInRange, IsNodeState};
 ghost use Rattle.mu_reference.specs.View.{state_of, blob_phase_of};
-ghost use Rattle.mu_reference.specs.Messages.{blob_reply_of};
+ghost use Rattle.mu_reference.specs.Fits.{IsShort};
 ghost use Rattle.mu_reference.specs.BlobRows.{told_by, block_told_by};
 ghost use Rattle.mu_reference.specs.Outcomes.{BeginsWithin, ServedAs};
 
+use crate::answers::BlobAnswer;
 use crate::blob_events::{Served, transfer_reply};
 use crate::blob_table::{
     BlockTold, Told, on_block_get, on_block_start, on_transfer_cancel, on_transfer_start,
@@ -39,24 +41,43 @@ impl State {
         self.server().phase()
     }
 
+    /// The phase of the transfer as it stands on the wire.
+    pub fn blob_phase_number(&self) -> u8
+        ensures { result ≡ blob_number (blob_phase (state_of self.now)) }
+    {
+        match self.blob_phase() {
+            BlobPhase::Inactive => 0,
+            BlobPhase::WaitingForStart(_) => 1,
+            BlobPhase::NextBlock(..) => 2,
+            BlobPhase::NextChunk(..) => 3,
+            BlobPhase::Complete(_) => 4,
+            BlobPhase::Suspended(..) => 5,
+        }
+    }
+
     /// The Transfer Status of the node.
     #[tactic(auto, using(crate::proofs::Answered::phase_sound))]
-    fn transfer_answer(&self, status: u8) -> BlobReply
-        requires { IsNodeState (state_of self.now) }
-        ensures { blob_reply_of result ≡ transfer_status status (blob_phase (state_of self.now)) }
+    fn transfer_answer(&self, status: u8) -> BlobAnswer
+        requires known { status ≤ 7 }
+        requires sound { IsNodeState (state_of self.now) }
+        ensures { result ≡ transfer_status status (blob_phase (state_of self.now)) }
     {
         states_are_sound();
         transfer_reply(status, self.blob_phase())
     }
 
-    fn start_told(&self, id: u64, parameters: Parameters) -> Told
+    /// What a Transfer Start does.
+    pub fn start_told(&self, id: u64, parameters: Parameters) -> Told
+        ensures known { result.status ≤ 7 }
         ensures within { BeginsWithin self.now.capacity parameters result.change }
         ensures told { (from : ℕ) → on_blob (server_of (state_of self.now)) from (TransferStart id parameters) ≡ told_by (server_of (state_of self.now)) from parameters result }
     {
         on_transfer_start(self.server(), id, parameters, self.blob_phase())
     }
 
-    fn cancel_told(&self, id: u64) -> Told
+    /// What a Transfer Cancel does.
+    pub fn cancel_told(&self, id: u64) -> Told
+        ensures known { result.status ≤ 7 }
         ensures within { (capacity : ℕ) (p : Parameters) → BeginsWithin capacity p result.change }
         ensures told { (from : ℕ) → on_blob (server_of (state_of self.now)) from (TransferCancel id) ≡ told_by (server_of (state_of self.now)) from UNUSED result }
     {
@@ -67,9 +88,9 @@ impl State {
     pub fn on_blob_information_get(&self, from: u16) -> Served
         ensures { ServedAs (state_of self.now) (on_blob (server_of (state_of self.now)) from BlobInformationGet) (Ok result) (state_of self.now) }
     {
-        let reply = BlobReply::BlobInformationStatus {
+        let reply = BlobAnswer::new(BlobReply::BlobInformationStatus {
             capacity: self.capacity,
-        };
+        });
         Served {
             reply: Some((from, reply)),
             work: FlashWork::Untouched,
@@ -128,7 +149,9 @@ impl State {
 
     fn block_start_told(&self, block: u16, chunk_size: u16) -> BlockTold
         requires { IsNodeState (state_of self.now) }
-        ensures { (from : ℕ) → on_blob (server_of (state_of self.now)) from (BlockStart block chunk_size) ≡ block_told_by (server_of (state_of self.now)) from result }
+        ensures known { result.status ≤ 7 }
+        ensures short { IsShort result.report }
+        ensures told { (from : ℕ) → on_blob (server_of (state_of self.now)) from (BlockStart block chunk_size) ≡ block_told_by (server_of (state_of self.now)) from result }
     {
         states_are_sound();
         on_block_start(block, chunk_size, self.blob_phase())
@@ -136,7 +159,9 @@ impl State {
 
     fn block_get_told(&self) -> BlockTold
         requires { IsNodeState (state_of self.now) }
-        ensures { (from : ℕ) → on_blob (server_of (state_of self.now)) from BlockGet ≡ block_told_by (server_of (state_of self.now)) from result }
+        ensures known { result.status ≤ 7 }
+        ensures short { IsShort result.report }
+        ensures told { (from : ℕ) → on_blob (server_of (state_of self.now)) from BlockGet ≡ block_told_by (server_of (state_of self.now)) from result }
     {
         states_are_sound();
         on_block_get(self.server(), self.blob_phase())
@@ -145,18 +170,20 @@ impl State {
     /// Does what a Block row says.
     #[tactic(auto, using(crate::proofs::Changes::same_after))]
     fn tell_block(&mut self, alloc: Global, from: u16, told: BlockTold) -> Result<Served, Stop>
+        requires known { told.status ≤ 7 }
+        requires short { IsShort told.report }
         ensures { ServedAs (state_of self.old) (block_told_by (server_of (state_of self.old)) from told) result (state_of self.new) }
     {
         let now = self.moment;
         if self.session.change(alloc, told.session, now, from).is_err() {
             return Err(Stop::NoMemory);
         }
-        let reply = BlobReply::BlockStatus {
+        let reply = BlobAnswer::new(BlobReply::BlockStatus {
             status: told.status,
             block: told.block,
             chunk_size: told.chunk_size,
             report: told.report,
-        };
+        });
         Ok(Served {
             reply: Some((from, reply)),
             work: FlashWork::Untouched,

@@ -7,8 +7,9 @@ ghost use Rattle.mu_model_node.specs.BlobTable.{starts, resumes, repeats, on_tra
 ghost use Rattle.mu_model_node.specs.NodeState.{transfer_of};
 ghost use Rattle.mu_model_node.specs.Sound.{IsTransfer, IsComing, IsPhase};
 ghost use Rattle.mu_reference.specs.View.{job_of, current_of, blob_phase_of};
-ghost use Rattle.mu_reference.specs.BlobRows.{server_of, session_by, told_by, block_told_by, chunk_stepped, ReceivesWithin};
+ghost use Rattle.mu_reference.specs.BlobRows.{server_of, link_by, told_by, block_told_by, chunk_stepped, ReceivesWithin};
 ghost use Rattle.mu_reference.specs.Outcomes.{BeginsWithin};
+ghost use Rattle.mu_reference.specs.Fits.{IsShort};
 
 use crate::phases::{BlobPhase, Serving, blob_phase};
 use crate::values::{CurrentBlock, Job, Session};
@@ -43,13 +44,19 @@ pub struct Server<'a> {
     pub now: u64,
 }
 
-/// What a row does to the session.
+/// What a row does to the link.
 #[derive(Clone, Copy)]
-pub enum SessionChange {
+pub enum LinkChange {
     Keeps,
     Hears,
     Links,
     Unlinks,
+}
+
+/// What a row does to the session.
+#[derive(Clone, Copy)]
+pub enum SessionChange {
+    Link(LinkChange),
     Holds {
         block: u16,
         chunk_size: u16,
@@ -72,7 +79,7 @@ pub enum TransferChange {
 /// What a row of Transfer Start or Transfer Cancel does, and the status that is told.
 #[derive(Clone, Copy)]
 pub struct Told {
-    pub session: SessionChange,
+    pub link: LinkChange,
     pub change: TransferChange,
     pub status: u8,
 }
@@ -105,26 +112,27 @@ impl<'a> Server<'a> {
 }
 
 fn refused(status: u8) -> Told
-    ensures { result ≡ record { session = SessionChange.Keeps; change = TransferChange.Nothing; status = status } }
+    ensures { result ≡ record { link = LinkChange.Keeps; change = TransferChange.Nothing; status = status } }
 {
     Told {
-        session: SessionChange::Keeps,
+        link: LinkChange::Keeps,
         change: TransferChange::Nothing,
         status,
     }
 }
 
-fn accepted(session: SessionChange, change: TransferChange) -> Told
-    ensures { result ≡ record { session = session; change = change; status = 0 } }
+fn accepted(link: LinkChange, change: TransferChange) -> Told
+    ensures { result ≡ record { link = link; change = change; status = 0 } }
 {
     Told {
-        session,
+        link,
         change,
         status: SUCCESS,
     }
 }
 
 fn start<'a>(server: Server<'a>, parameters: Parameters, job: &'a Job) -> Told
+    ensures known { result.status ≤ 7 }
     ensures within { BeginsWithin server.entry.capacity parameters result.change }
     ensures told { (to : ℕ) → starts (server_of server.entry) to parameters (transfer_of (job_of job.now)) ≡ told_by (server_of server.entry) to parameters result }
 {
@@ -135,29 +143,26 @@ fn start<'a>(server: Server<'a>, parameters: Parameters, job: &'a Job) -> Told
     } else if parameters.size != job.meta.size {
         refused(INVALID_PARAMETER)
     } else {
-        accepted(SessionChange::Links, TransferChange::Begin)
+        accepted(LinkChange::Links, TransferChange::Begin)
     }
 }
 
 fn resume<'a>(server: Server<'a>, parameters: Parameters, present: Parameters) -> Told
+    ensures known { result.status ≤ 7 }
     ensures within { BeginsWithin server.entry.capacity parameters result.change }
     ensures told { (to : ℕ) → resumes (server_of server.entry) to parameters present ≡ told_by (server_of server.entry) to parameters result }
 {
     if parameters == present {
-        accepted(SessionChange::Links, TransferChange::Nothing)
+        accepted(LinkChange::Links, TransferChange::Nothing)
     } else {
         refused(INVALID_PARAMETER)
     }
 }
 
-fn repeat<'a>(
-    server: Server<'a>,
-    heard: SessionChange,
-    parameters: Parameters,
-    job: &'a Job,
-) -> Told
+fn repeat<'a>(server: Server<'a>, heard: LinkChange, parameters: Parameters, job: &'a Job) -> Told
+    ensures known { result.status ≤ 7 }
     ensures within { BeginsWithin server.entry.capacity parameters result.change }
-    ensures told { (to : ℕ) → repeats (server_of server.entry) (session_by heard server.entry.now to (server_of server.entry).session) to parameters (transfer_of (job_of job.now)) ≡ told_by (server_of server.entry) to parameters result }
+    ensures told { (to : ℕ) → repeats (server_of server.entry) (link_by heard server.entry.now to (server_of server.entry).session) to parameters (transfer_of (job_of job.now)) ≡ told_by (server_of server.entry) to parameters result }
 {
     match job.parameters {
         Some(present) if parameters == present => accepted(heard, TransferChange::Nothing),
@@ -172,6 +177,7 @@ pub fn on_transfer_start<'a>(
     parameters: Parameters,
     phase: BlobPhase<'a>,
 ) -> Told
+    ensures known { result.status ≤ 7 }
     ensures within { BeginsWithin server.entry.capacity parameters result.change }
     ensures told { (to : ℕ) → on_transfer_start (server_of server.entry) to id parameters (blob_phase_of phase.entry) ≡ told_by (server_of server.entry) to parameters result }
 {
@@ -185,10 +191,10 @@ pub fn on_transfer_start<'a>(
             }
         }
         BlobPhase::NextBlock(job, _) | BlobPhase::NextChunk(job, _, _) if id == job.id => {
-            repeat(server, SessionChange::Hears, parameters, job)
+            repeat(server, LinkChange::Hears, parameters, job)
         }
         BlobPhase::Complete(job) if id == job.id => {
-            repeat(server, SessionChange::Keeps, parameters, job)
+            repeat(server, LinkChange::Keeps, parameters, job)
         }
         BlobPhase::Inactive | BlobPhase::Suspended(..) => refused(WRONG_PHASE),
         _ => refused(WRONG_BLOB_ID),
@@ -197,14 +203,15 @@ pub fn on_transfer_start<'a>(
 
 /// BLOB Transfer Cancel.
 pub fn on_transfer_cancel<'a>(server: Server<'a>, id: u64) -> Told
+    ensures known { result.status ≤ 7 }
     ensures within { (capacity : ℕ) (p : Parameters) → BeginsWithin capacity p result.change }
     ensures told { (to : ℕ) (p : Parameters) → on_transfer_cancel (server_of server.entry) to id (server_of server.entry).serving ≡ told_by (server_of server.entry) to p result }
 {
     match server.serving {
         Serving::NoJob => refused(SUCCESS),
         Serving::Lacking(job) if id == job.id => match job.parameters {
-            None => accepted(SessionChange::Unlinks, TransferChange::Nothing),
-            Some(_) => accepted(SessionChange::Unlinks, TransferChange::Drop),
+            None => accepted(LinkChange::Unlinks, TransferChange::Nothing),
+            Some(_) => accepted(LinkChange::Unlinks, TransferChange::Drop),
         },
         Serving::Whole(job) if id == job.id => refused(WRONG_PHASE),
         _ => refused(WRONG_BLOB_ID),
@@ -234,7 +241,9 @@ fn open_or_hold(parameters: Parameters, job: &Job, block: u16, chunk_size: u16) 
     requires transfer { IsTransfer (transfer_of (job_of job.now)) parameters }
     requires least { 8 ≤ chunk_size }
     requires most { chunk_size ≤ 376 }
-    ensures { (v : ServerModel) (to : ℕ) → (if is_some (at job.now.held block) then held_again v to block chunk_size else opens v to parameters block chunk_size) ≡ block_told_by v to result }
+    ensures known { result.status ≤ 7 }
+    ensures short { IsShort result.report }
+    ensures told { (v : ServerModel) (to : ℕ) → (if is_some (at job.now.held block) then held_again v to block chunk_size else opens v to parameters block chunk_size) ≡ block_told_by v to result }
 {
     if job.held.has(usize::from(block)) {
         block_told(
@@ -260,12 +269,14 @@ fn open_or_hold(parameters: Parameters, job: &Job, block: u16, chunk_size: u16) 
 
 fn next_block(parameters: Parameters, job: &Job, block: u16, chunk_size: u16) -> BlockTold
     requires { IsTransfer (transfer_of (job_of job.now)) parameters }
-    ensures { (v : ServerModel) (to : ℕ) → on_block_start v to block chunk_size (NextBlock (transfer_of (job_of job.now)) parameters) ≡ block_told_by v to result }
+    ensures known { result.status ≤ 7 }
+    ensures short { IsShort result.report }
+    ensures told { (v : ServerModel) (to : ℕ) → on_block_start v to block chunk_size (NextBlock (transfer_of (job_of job.now)) parameters) ≡ block_told_by v to result }
 {
     let most = parameters.mtu.saturating_sub(4).min(376);
     if usize::from(block) >= job.held.len() {
         block_told(
-            SessionChange::Keeps,
+            SessionChange::Link(LinkChange::Keeps),
             INVALID_BLOCK_NUMBER,
             block,
             chunk_size,
@@ -273,7 +284,7 @@ fn next_block(parameters: Parameters, job: &Job, block: u16, chunk_size: u16) ->
         )
     } else if chunk_size < 8 || chunk_size > most {
         block_told(
-            SessionChange::Keeps,
+            SessionChange::Link(LinkChange::Keeps),
             INVALID_CHUNK_SIZE,
             block,
             chunk_size,
@@ -287,14 +298,16 @@ fn next_block(parameters: Parameters, job: &Job, block: u16, chunk_size: u16) ->
 /// BLOB Block Start.
 pub fn on_block_start<'a>(block: u16, chunk_size: u16, phase: BlobPhase<'a>) -> BlockTold
     requires { IsPhase (blob_phase_of phase) }
-    ensures { (v : ServerModel) (to : ℕ) → on_block_start v to block chunk_size (blob_phase_of phase.entry) ≡ block_told_by v to result }
+    ensures known { result.status ≤ 7 }
+    ensures short { IsShort result.report }
+    ensures told { (v : ServerModel) (to : ℕ) → on_block_start v to block chunk_size (blob_phase_of phase.entry) ≡ block_told_by v to result }
 {
     match phase {
         BlobPhase::NextBlock(job, parameters) => next_block(parameters, job, block, chunk_size),
         BlobPhase::NextChunk(_, _, current)
             if block == current.number && chunk_size == current.chunk_size => {
             block_told(
-                SessionChange::Hears,
+                SessionChange::Link(LinkChange::Hears),
                 SUCCESS,
                 block,
                 chunk_size,
@@ -302,7 +315,7 @@ pub fn on_block_start<'a>(block: u16, chunk_size: u16, phase: BlobPhase<'a>) -> 
             )
         }
         _ => block_told(
-            SessionChange::Keeps,
+            SessionChange::Link(LinkChange::Keeps),
             WRONG_PHASE,
             block,
             chunk_size,
@@ -311,13 +324,21 @@ pub fn on_block_start<'a>(block: u16, chunk_size: u16, phase: BlobPhase<'a>) -> 
     }
 }
 
-fn told_last<'a>(server: Server<'a>, heard: SessionChange) -> BlockTold
-    ensures { (to : ℕ) → tell_last (server_of server.entry).session (session_by heard server.entry.now to (server_of server.entry).session) to (server_of server.entry).session.last ≡ block_told_by (server_of server.entry) to result }
+fn told_last<'a>(server: Server<'a>, heard: LinkChange) -> BlockTold
+    ensures known { result.status ≤ 7 }
+    ensures short { IsShort result.report }
+    ensures told { (to : ℕ) → tell_last (server_of server.entry).session (link_by heard server.entry.now to (server_of server.entry).session) to (server_of server.entry).session.last ≡ block_told_by (server_of server.entry) to result }
 {
     match server.session.last {
-        None => block_told(SessionChange::Keeps, WRONG_PHASE, 0, 0, Report::All),
+        None => block_told(
+            SessionChange::Link(LinkChange::Keeps),
+            WRONG_PHASE,
+            0,
+            0,
+            Report::All,
+        ),
         Some(last) => block_told(
-            heard,
+            SessionChange::Link(heard),
             SUCCESS,
             last.number,
             last.chunk_size,
@@ -329,22 +350,30 @@ fn told_last<'a>(server: Server<'a>, heard: SessionChange) -> BlockTold
 /// BLOB Block Get.
 pub fn on_block_get<'a>(server: Server<'a>, phase: BlobPhase<'a>) -> BlockTold
     requires { IsPhase (blob_phase_of phase) }
-    ensures { (to : ℕ) → on_block_get (server_of server.entry) to (blob_phase_of phase.entry) ≡ block_told_by (server_of server.entry) to result }
+    ensures known { result.status ≤ 7 }
+    ensures short { IsShort result.report }
+    ensures told { (to : ℕ) → on_block_get (server_of server.entry) to (blob_phase_of phase.entry) ≡ block_told_by (server_of server.entry) to result }
 {
     match phase {
         BlobPhase::NextChunk(_, _, current) => {
             let report = report_of(&current.chunks.missing());
             block_told(
-                SessionChange::Hears,
+                SessionChange::Link(LinkChange::Hears),
                 SUCCESS,
                 current.number,
                 current.chunk_size,
                 report,
             )
         }
-        BlobPhase::NextBlock(..) => told_last(server, SessionChange::Hears),
-        BlobPhase::Complete(_) => told_last(server, SessionChange::Keeps),
-        _ => block_told(SessionChange::Keeps, WRONG_PHASE, 0, 0, Report::All),
+        BlobPhase::NextBlock(..) => told_last(server, LinkChange::Hears),
+        BlobPhase::Complete(_) => told_last(server, LinkChange::Keeps),
+        _ => block_told(
+            SessionChange::Link(LinkChange::Keeps),
+            WRONG_PHASE,
+            0,
+            0,
+            Report::All,
+        ),
     }
 }
 

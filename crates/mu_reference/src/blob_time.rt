@@ -1,5 +1,6 @@
 // What a node's BLOB server does as time passes.
 ghost use Rattle.std.specs.Prelude.{◌≡◌};
+ghost use Rattle.mu_model_node.specs.BlobMessages.{PartialBlockReport};
 ghost use Rattle.mu_model_node.specs.BlobTable.{on_server_time};
 ghost use Rattle.mu_model_node.specs.NodeState.{server_of};
 ghost use Rattle.mu_model_node.specs.Sound.{IsNodeState};
@@ -7,6 +8,7 @@ ghost use Rattle.mu_reference.specs.View.{state_of};
 ghost use Rattle.mu_reference.specs.BlobRows.{time_stepped};
 ghost use Rattle.mu_reference.specs.Outcomes.{ServedAs};
 
+use crate::answers::BlobAnswer;
 use crate::blob_events::Served;
 use crate::chunks::nothing;
 use crate::messages::BlobReply;
@@ -15,6 +17,13 @@ use crate::values::{PullReport, State};
 use arrayvec::ArrayVec;
 use mu_model_node::FlashWork;
 use mu_model_node::laws::states_are_sound;
+
+/// A Partial Block Report.
+pub fn partial_report(chunks: ArrayVec<u16, 16>) -> BlobAnswer
+    ensures { result ≡ PartialBlockReport chunks.items }
+{
+    BlobAnswer::new(BlobReply::PartialBlockReport { chunks })
+}
 
 fn numbers_of(chunks: &ArrayVec<u16, 16>) -> ArrayVec<u16, 16>
     ensures { result.items ≡ chunks.now.items }
@@ -27,7 +36,7 @@ fn numbers_of(chunks: &ArrayVec<u16, 16>) -> ArrayVec<u16, 16>
 }
 
 impl State {
-    fn time_step(&self) -> TimeStep
+    pub(crate) fn time_step(&self) -> TimeStep
         requires { IsNodeState (state_of self.now) }
         ensures { on_server_time (server_of (state_of self.now)) (server_of (state_of self.now)).serving ≡ time_stepped (server_of (state_of self.now)) result }
     {
@@ -46,7 +55,7 @@ impl State {
         });
         let reply = match self.session.client {
             None => None,
-            Some(client) => Some((client, BlobReply::PartialBlockReport { chunks })),
+            Some(client) => Some((client, partial_report(chunks))),
         };
         Served {
             reply,

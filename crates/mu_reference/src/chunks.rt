@@ -1,28 +1,28 @@
 // What a node does with a chunk.
-ghost use Rattle.std.specs.Prelude.{ℕ, ◌≡◌, ◌<◌, length, IfOk, None};
+ghost use Rattle.std.specs.Prelude.{ℕ, ◌≡◌, ◌≤◌, ◌^◌, Ok, IfOk, None};
 ghost use Rattle.mu_model_image.specs.Pieces.{piece_count};
-ghost use Rattle.mu_model_node.specs.Slots.{put, is_full};
 ghost use Rattle.mu_model_node.specs.NodeState.{server_of, blob_phase};
 ghost use Rattle.mu_model_node.specs.BlobMessages.{ChunkTransfer};
 ghost use Rattle.mu_model_node.specs.BlobTable.{on_blob};
 ghost use Rattle.mu_model_node.specs.Sound.{IsNodeState};
-ghost use Rattle.mu_reference.specs.View.{current_of, state_of};
-ghost use Rattle.mu_reference.specs.BlobRows.{chunk_stepped, ReceivesWithin, completed_by, received_by, HasBlock, HasPlace};
+ghost use Rattle.mu_reference.specs.View.{there, state_of};
+ghost use Rattle.mu_reference.specs.BlobRows.{chunk_stepped, ReceivesWithin, completed_by, kept_by, received_by, HasBlock, HasPlace, IsLastChunk};
 ghost use Rattle.mu_reference.specs.Outcomes.{ServedAs};
 
 use crate::blob_events::Served;
 use crate::blob_table::{ChunkStep, on_chunk_transfer};
-use crate::messages::BlobReply;
+use crate::blob_time::partial_report;
 use crate::recording::Stop;
 use crate::slots::Octets;
-use crate::values::{CurrentBlock, State};
+use crate::values::State;
 use arrayvec::ArrayVec;
 use mu_model_node::laws::{chunks_are_of_the_job, states_are_sound};
 use mu_model_node::{FlashWork, LastBlock, Parameters};
 use std::alloc::{AllocError, Global};
 
-fn pages_of(octets: usize) -> usize
-    ensures { result ≡ piece_count octets 4096 }
+pub(crate) fn pages_of(octets: usize) -> usize
+    ensures pages { result ≡ piece_count octets 4096 }
+    ensures few { result ≤ 2 ^ 53 }
 {
     octets / 4096 + usize::from(octets % 4096 != 0)
 }
@@ -37,29 +37,35 @@ pub fn nothing() -> Served
     }
 }
 
-impl CurrentBlock {
-    /// Puts a chunk, and says whether all are there.
-    fn put(&mut self, alloc: Global, chunk: u16, octets: &[u8]) -> Result<bool, AllocError>
-        requires { chunk < length self.old.chunks }
-        ensures { IfOk result (λ full. (current_of self.new ≡ record (current_of self.old) { chunks = put self.old.chunks chunk octets.now }) × (full ≡ is_full (put self.old.chunks chunk octets.now))) }
-    {
-        let piece = Octets::new(Vec::from_slice(alloc, octets)?);
-        self.chunks.put(usize::from(chunk), piece);
-        Ok(self.chunks.is_full())
-    }
-}
-
 impl State {
+    /// The octets of the current block where this chunk is its last one.
+    pub fn last_chunk(
+        &self,
+        alloc: Global,
+        chunk: u16,
+        octets: &[u8],
+    ) -> Result<Option<Vec<u8>>, AllocError>
+        requires { HasPlace chunk (state_of self.now).session.current (state_of self.now).durable.job }
+        ensures { IfOk result (λ block. IsLastChunk chunk octets.now (state_of self.now).session.current (there (λ b. b.items) block)) }
+    {
+        let Some(current) = &self.session.current else {
+            return Ok(None);
+        };
+        let place = usize::from(chunk);
+        if !current.chunks.fills(place) {
+            return Ok(None);
+        }
+        let block = current.chunks.joined_with(alloc, place, octets)?;
+        Ok(Some(block))
+    }
+
     /// All chunks are there: the block is held.
-    fn complete(&mut self, alloc: Global, parameters: Parameters) -> Result<Served, Stop>
+    fn complete(&mut self, parameters: Parameters, block: Vec<u8>) -> Served
         requires { HasBlock (state_of self.old).session.current (state_of self.old).durable.job }
-        ensures { ServedAs (state_of self.old) (completed_by (state_of self.old) parameters) result (state_of self.new) }
+        ensures { ServedAs (state_of self.old) (completed_by (state_of self.old) parameters block.items) (Ok result) (state_of self.new) }
     {
         let Some(current) = self.session.current.take() else {
-            return Ok(nothing());
-        };
-        let Ok(block) = current.chunks.joined(alloc) else {
-            return Err(Stop::NoMemory);
+            return nothing();
         };
         let pages = pages_of(block.len());
         if let Some(job) = &mut self.job {
@@ -72,22 +78,25 @@ impl State {
         });
         self.session.report = None;
         let reply = match self.session.client {
-            Some(client) if parameters.mode == 2 => Some((
-                client,
-                BlobReply::PartialBlockReport {
-                    chunks: ArrayVec::new(),
-                },
-            )),
+            Some(client) if parameters.mode == 2 => Some((client, partial_report(ArrayVec::new()))),
             _ => None,
         };
-        Ok(Served {
+        Served {
             reply,
             work: FlashWork::PutBlock { pages },
-        })
+        }
     }
-}
 
-impl State {
+    /// The current block has one more chunk, and not all.
+    fn keep(&mut self, chunk: u16, piece: Octets)
+        requires { HasPlace chunk (state_of self.old).session.current (state_of self.old).durable.job }
+        ensures { state_of self.new ≡ kept_by (state_of self.old) chunk piece }
+    {
+        if let Some(current) = &mut self.session.current {
+            current.chunks.put(usize::from(chunk), piece);
+        }
+    }
+
     /// A chunk is received.
     fn receive(
         &mut self,
@@ -99,18 +108,23 @@ impl State {
         requires { HasPlace chunk (state_of self.old).session.current (state_of self.old).durable.job }
         ensures { ServedAs (state_of self.old) (received_by (state_of self.old) parameters chunk octets.now) result (state_of self.new) }
     {
-        self.session.heard = self.moment;
-        let Some(current) = &mut self.session.current else {
-            return Ok(nothing());
+        let Ok(last) = self.last_chunk(alloc, chunk, octets) else {
+            return Err(Stop::NoMemory);
         };
-        match current.put(alloc, chunk, octets) {
-            Err(_) => Err(Stop::NoMemory),
-            Ok(false) => Ok(nothing()),
-            Ok(true) => self.complete(alloc, parameters),
+        if let Some(block) = last {
+            self.session.heard = self.moment;
+            return Ok(self.complete(parameters, block));
         }
+        let Ok(piece) = Vec::from_slice(alloc, octets) else {
+            return Err(Stop::NoMemory);
+        };
+        self.session.heard = self.moment;
+        self.keep(chunk, Octets::new(piece));
+        Ok(nothing())
     }
 
-    fn chunk_step(&self, chunk: u16, octets: &[u8]) -> ChunkStep
+    /// What is done with a chunk.
+    pub fn chunk_step(&self, chunk: u16, octets: &[u8]) -> ChunkStep
         requires { IsNodeState (state_of self.now) }
         ensures stepped { (from : ℕ) → on_blob (server_of (state_of self.now)) from (ChunkTransfer chunk octets.now) ≡ chunk_stepped (server_of (state_of self.now)) chunk octets.now (blob_phase (state_of self.now)) result }
         ensures within { ReceivesWithin chunk (blob_phase (state_of self.now)) result }

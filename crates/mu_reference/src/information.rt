@@ -7,7 +7,9 @@ ghost use Rattle.mu_model_node.specs.Sound.{IsNodeState};
 ghost use Rattle.mu_reference.specs.View.{image_of, state_of};
 ghost use Rattle.mu_reference.specs.Words.{ids_of};
 ghost use Rattle.mu_reference.specs.UpdateRows.{UpdatedAs};
+ghost use Rattle.mu_reference.specs.Fits.{AreIds};
 
+use crate::answers::UpdateAnswer;
 use crate::messages::UpdateReply;
 use crate::update_table::Updated;
 use crate::values::{Image, State};
@@ -21,11 +23,12 @@ fn id_of(image: &Image) -> Fwid
     fwid_of(0xFFFF, &image.meta)
 }
 
-#[tactic(auto, using(crate::proofs::Ids::one_more, crate::proofs::Ids::none_yet, crate::proofs::Ids::up_to, crate::proofs::Ids::past_end))]
+#[tactic(auto, using(crate::proofs::Ids::one_more, crate::proofs::Ids::none_yet, crate::proofs::Ids::up_to, crate::proofs::Ids::past_end, crate::proofs::Shown::ids_are))]
 fn ids(images: &[Image], first: usize, limit: usize) -> ArrayVec<Fwid, 2>
     requires few { length images.now ≤ 2 }
     requires small { first + limit ≤ 1000 }
-    ensures { map (λ id. id.items) result.items ≡ take limit (drop first (ids_of (map image_of images.now))) }
+    ensures are { AreIds (map (λ id. id.items) result.items) }
+    ensures ids { map (λ id. id.items) result.items ≡ take limit (drop first (ids_of (map image_of images.now))) }
 {
     let last = images.len().min(first + limit);
     let mut ids = ArrayVec::new();
@@ -41,7 +44,7 @@ impl State {
         requires { IsNodeState (state_of self.now) }
         ensures { UpdatedAs (state_of self.now) from (on_update (state_of self.now) from (InformationGet first limit)) (Ok result) (state_of self.now) }
     {
-        let reply = UpdateReply::InformationStatus {
+        let reply = UpdateAnswer::new(UpdateReply::InformationStatus {
             count: self.images.len() as u8,
             first,
             ids: ids(
@@ -49,7 +52,7 @@ impl State {
                 usize::from(first),
                 usize::from(limit),
             ),
-        };
+        });
         Updated {
             reply,
             work: FlashWork::Untouched,

@@ -2,36 +2,39 @@
 //! in packets and octets.
 #![tactic(auto)]
 
+mod answers;
 mod blob_events;
 mod blob_requests;
 mod blob_table;
 mod blob_time;
 mod chunks;
+mod foreseen;
 mod information;
 mod messages;
+mod moments;
 mod node;
 mod node_time;
 mod phases;
 mod recording;
-mod reference;
 mod session;
 mod slots;
-#[cfg(test)]
-mod tests;
 mod timing;
 mod update_table;
 mod values;
 
+pub use answers::{BlobAnswer, UpdateAnswer};
 pub use blob_events::{Served, transfer_reply};
-pub use blob_table::{BlockTold, ChunkStep, Server, SessionChange, Told, TransferChange};
+pub use blob_table::{
+    BlockTold, ChunkStep, LinkChange, Server, SessionChange, Told, TransferChange,
+};
 pub use messages::{
     BlobReply, BlobRequest, Request, ShownJob, UpdateReply, UpdateRequest, UpdateStart,
 };
 pub use node::{Done, Reply};
+pub use node_time::TimeKind;
 pub use phases::{BlobPhase, Serving, UpdatePhase, blob_phase, serving_at, update_phase};
 pub use recording::Stop;
-pub use reference::Node;
 pub use slots::{Octets, Slots};
 pub use timing::{TimeStep, is_late, on_server_time};
-pub use update_table::Updated;
+pub use update_table::{UpdateStep, Updated};
 pub use values::{CurrentBlock, Image, Job, PullReport, Session, State};

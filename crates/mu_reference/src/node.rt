@@ -7,13 +7,14 @@ ghost use Rattle.mu_model_node.specs.NodeMessages.{ByUpdate};
 ghost use Rattle.mu_model_node.specs.NodeState.{server_of};
 ghost use Rattle.mu_model_node.specs.Sound.{BlobRequestFits, RequestFits, IsNodeState};
 ghost use Rattle.mu_reference.specs.View.{state_of};
-ghost use Rattle.mu_reference.specs.Messages.{blob_request_of, update_request_of, request_of, update_reply_of};
+ghost use Rattle.mu_reference.specs.Messages.{blob_request_of, update_request_of, request_of};
 ghost use Rattle.mu_reference.specs.Outcomes.{ServedAs};
 ghost use Rattle.mu_reference.specs.UpdateRows.{UpdatedAs};
 ghost use Rattle.mu_reference.specs.NodeRows.{DoneAs, replies_of};
 
+use crate::answers::{BlobAnswer, UpdateAnswer};
 use crate::blob_events::Served;
-use crate::messages::{BlobReply, BlobRequest, Request, UpdateReply, UpdateRequest};
+use crate::messages::{BlobRequest, Request, UpdateRequest};
 use crate::node_time::serving;
 use crate::recording::Stop;
 use crate::update_table::Updated;
@@ -24,8 +25,8 @@ use std::alloc::Global;
 /// What a node answers.
 #[derive(Drop)]
 pub enum Reply {
-    Updating(UpdateReply),
-    Serving(BlobReply),
+    Updating(UpdateAnswer),
+    Serving(BlobAnswer),
 }
 
 /// What came of an event.
@@ -111,7 +112,7 @@ impl State {
 
 /// What the update table did.
 pub fn updating(to: u16, done: Updated) -> Done
-    ensures replies { replies_of result.reply ≡ (to, ByUpdate (update_reply_of done.reply)) ∷ [] }
+    ensures replies { replies_of result.reply ≡ (to, ByUpdate done.reply) ∷ [] }
     ensures work { result.work ≡ done.work }
 {
     let Updated { reply, work } = done;

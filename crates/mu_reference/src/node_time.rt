@@ -6,7 +6,7 @@ ghost use Rattle.mu_model_node.specs.NodeState.{update_phase};
 ghost use Rattle.mu_model_node.specs.TimeTable.{on_time};
 ghost use Rattle.mu_model_node.specs.Sound.{IsNodeState};
 ghost use Rattle.mu_reference.specs.View.{state_of, image_of, job_of};
-ghost use Rattle.mu_reference.specs.NodeRows.{DoneAs, activated_with, verified_with, judged_with, time_done, replies_of};
+ghost use Rattle.mu_reference.specs.NodeRows.{DoneAs, activated_with, verified_with, judged_with, switched_to, time_done, replies_of};
 ghost use Rattle.mu_reference.specs.Outcomes.{blob_replies_of};
 ghost use Rattle.mu_model_node.specs.NodeOutcome.{by_blob};
 ghost use Rattle.mu_model_node.specs.Events.{last_count};
@@ -41,7 +41,8 @@ fn is_whole(alloc: Global, job: &Job) -> Result<bool, AllocError>
 }
 
 impl State {
-    fn time_kind(&self) -> TimeKind
+    /// What a time event is.
+    pub fn time_kind(&self) -> TimeKind
         ensures { on_time (state_of self.now) (update_phase (state_of self.now)) ≡ time_done (state_of self.now) result }
     {
         match self.update_phase() {
@@ -62,41 +63,43 @@ impl State {
         }
     }
 
-    /// A job's image becomes the active one.
-    fn activate_job(&mut self, alloc: Global, job: Job) -> Result<Done, Stop>
-        requires { (state_of self.old).durable.job ≡ None }
-        ensures { DoneAs (state_of self.old) (activated_with (state_of self.old) (Some (job_of job))) result (state_of self.new) }
+    /// One record makes the job's image, which has these octets, the active one.
+    fn switch(&mut self, octets: Vec<u8>)
+        requires { self.old.count < last_count }
+        ensures { state_of self.new ≡ switched_to (state_of self.old) octets.items (state_of self.old).durable.job }
     {
-        if self.is_at_last_record() {
-            return Err(Stop::Worn);
+        if let Some(job) = self.job.take() {
+            let image = Image {
+                octets,
+                meta: job.meta,
+            };
+            self.put_image(job.index, image);
+            self.record();
+            self.session.unlink();
         }
-        let Ok(octets) = job.held.joined(alloc) else {
-            return Err(Stop::NoMemory);
-        };
-        let image = Image {
-            octets,
-            meta: job.meta,
-        };
-        self.put_image(job.index, image);
-        self.record();
-        self.session.unlink();
-        Ok(Done {
-            reply: None,
-            work: FlashWork::Recorded { is_long: false },
-        })
     }
 
     /// The job's image becomes the active one.
     fn activate(&mut self, alloc: Global) -> Result<Done, Stop>
         ensures { DoneAs (state_of self.old) (activated_with (state_of self.old) (state_of self.old).durable.job) result (state_of self.new) }
     {
-        match self.job.take() {
-            None => Ok(Done {
+        let Some(job) = &self.job else {
+            return Ok(Done {
                 reply: None,
                 work: FlashWork::Untouched,
-            }),
-            Some(job) => self.activate_job(alloc, job),
+            });
+        };
+        if self.is_at_last_record() {
+            return Err(Stop::Worn);
         }
+        let Ok(octets) = job.held.joined(alloc) else {
+            return Err(Stop::NoMemory);
+        };
+        self.switch(octets);
+        Ok(Done {
+            reply: None,
+            work: FlashWork::Recorded { is_long: false },
+        })
     }
 
     /// One record says that the job's image is whole, or that it isn't.

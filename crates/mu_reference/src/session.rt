@@ -2,9 +2,9 @@
 ghost use Rattle.std.specs.Prelude.{◌≡◌, IfOk, OnErr};
 ghost use Rattle.mu_model_node.specs.BlobServer.{asleep, unlinked, made_ready};
 ghost use Rattle.mu_reference.specs.View.{session_of};
-ghost use Rattle.mu_reference.specs.BlobRows.{session_by};
+ghost use Rattle.mu_reference.specs.BlobRows.{link_by, session_by};
 
-use crate::blob_table::SessionChange;
+use crate::blob_table::{LinkChange, SessionChange};
 use crate::slots::Slots;
 use crate::values::{CurrentBlock, Session};
 use mu_model_node::{LastBlock, Link};
@@ -44,6 +44,22 @@ impl Session {
         self.heard = now;
     }
 
+    /// Does what a row says of the link.
+    pub fn link(&mut self, change: LinkChange, now: u64, from: u16)
+        ensures { session_of self.new ≡ link_by change now from (session_of self.old) }
+    {
+        match change {
+            LinkChange::Keeps => (),
+            LinkChange::Hears => self.heard = now,
+            LinkChange::Links => {
+                self.link = Link::Running;
+                self.client = Some(from);
+                self.heard = now;
+            }
+            LinkChange::Unlinks => self.unlink(),
+        }
+    }
+
     /// Does what a row says. Without memory nothing changes.
     pub fn change(
         &mut self,
@@ -56,14 +72,7 @@ impl Session {
         ensures err { OnErr result (self.new ≡ self.old) }
     {
         match change {
-            SessionChange::Keeps => (),
-            SessionChange::Hears => self.heard = now,
-            SessionChange::Links => {
-                self.link = Link::Running;
-                self.client = Some(from);
-                self.heard = now;
-            }
-            SessionChange::Unlinks => self.unlink(),
+            SessionChange::Link(change) => self.link(change, now, from),
             SessionChange::Holds { block, chunk_size } => {
                 self.last = Some(LastBlock {
                     number: block,

@@ -1,7 +1,7 @@
 // A place for each number below a bound, with octets or nothing.
-ghost use Rattle.std.specs.Prelude.{◌≡◌, ◌≤◌, ◌<◌, ◌++◌, true, if◌then◌else◌, length, is_some, is_none, slice_set, IfOk};
+ghost use Rattle.std.specs.Prelude.{ℕ, List, ◌≡◌, ◌≤◌, ◌<◌, ◌++◌, true, if◌then◌else◌, length, is_some, is_none, slice_set, IfOk, None};
 ghost use Rattle.mu_reference.specs.Words.{piece_at};
-ghost use Rattle.mu_model_node.specs.Slots.{empty, at, put, is_full, missing, joined};
+ghost use Rattle.mu_model_node.specs.Slots.{empty, at, put, is_full, missing, joined, held_count};
 
 use mu_report::NumberSet;
 use std::alloc::{AllocError, Global};
@@ -40,18 +40,25 @@ impl Octets {
 #[derive(Drop)]
 pub struct Slots {
     places: Vec<Option<Octets>>,
+    // How many places have nothing.
+    lacking: usize,
 }
 
 impl Model for Slots {
+    ghost use Rattle.std.specs.Prelude.{◌≡◌, is_none};
+    ghost use Rattle.std.specs.List.{count_by};
     ghost use Rattle.mu_model_node.specs.Slots.{Slots};
 
     ghost Value = { Slots };
 
     ghost view = { λ s. s.places.items };
+
+    ghost invariant = { λ s. s.lacking ≡ count_by is_none s.places.items };
 }
 
 impl Slots {
     /// So many places with nothing.
+    #[tactic(auto, using(crate::proofs::Lacking::lacking_empty))]
     pub fn empty(alloc: Global, count: usize) -> Result<Slots, AllocError>
         ensures { IfOk result (λ slots. slots ≡ empty count) }
     {
@@ -59,7 +66,10 @@ impl Slots {
         for _ in 0..count {
             places.push(None)?;
         }
-        Ok(Slots { places })
+        Ok(Slots {
+            places,
+            lacking: count,
+        })
     }
 
     /// No places.
@@ -68,6 +78,7 @@ impl Slots {
     {
         Slots {
             places: Vec::new(alloc),
+            lacking: 0,
         }
     }
 
@@ -76,6 +87,14 @@ impl Slots {
         ensures { result ≡ length self.now }
     {
         self.places.len()
+    }
+
+    /// How many places have something.
+    #[tactic(auto, using(crate::proofs::Lacking::held_and_lacking))]
+    pub fn held(&self) -> usize
+        ensures { result ≡ held_count self.now }
+    {
+        self.places.len() - self.lacking
     }
 
     /// Whether there is something at a place.
@@ -89,18 +108,32 @@ impl Slots {
     }
 
     /// Whether there is something at every place.
+    #[tactic(auto, using(crate::proofs::Lacking::full_test))]
     pub fn is_full(&self) -> bool
         ensures { result ≡ is_full self.now }
     {
-        self.places.iter().all(|place| place.is_some())
+        self.lacking == 0
     }
 
-    /// Puts octets at a place.
+    /// Whether there is something at every place once octets are put at one that has nothing.
+    #[tactic(auto, using(crate::proofs::Lacking::fills_test))]
+    pub fn fills(&self, place: usize) -> bool
+        requires within { place < length self.now }
+        requires lacks { at self.now place ≡ None }
+        ensures { (octets : List ℕ) → result ≡ is_full (put self.now place octets) }
+    {
+        self.lacking == 1
+    }
+
+    /// Puts octets at a place that has nothing.
+    #[tactic(auto, using(crate::proofs::Lacking::one_less, crate::proofs::Lacking::some_lacking))]
     pub fn put(&mut self, place: usize, octets: Octets)
-        requires { place < length self.old }
+        requires within { place < length self.old }
+        requires lacks { at self.old place ≡ None }
         ensures { self.new ≡ put self.old place octets }
     {
         self.places[place] = Some(octets);
+        self.lacking -= 1;
     }
 
     /// All that is there, in order.
@@ -111,6 +144,23 @@ impl Slots {
         let mut all = Vec::new(alloc);
         for place in &self.places {
             append(&mut all, place)?;
+        }
+        Ok(all)
+    }
+
+    /// All that is there, in order, once octets are put at a place.
+    #[tactic(auto, using(crate::proofs::Places::joined_put))]
+    pub fn joined_with(
+        &self,
+        alloc: Global,
+        place: usize,
+        octets: &[u8],
+    ) -> Result<Vec<u8>, AllocError>
+        ensures { IfOk result (λ all. all.items ≡ joined (put self.now place octets.now)) }
+    {
+        let mut all = Vec::new(alloc);
+        for (index, here) in self.places.iter().enumerate() {
+            append_either(&mut all, index == place, octets, here)?;
         }
         Ok(all)
     }
@@ -137,6 +187,22 @@ fn append(all: &mut Vec<u8>, place: &Option<Octets>) -> Result<(), AllocError>
         None => (),
     }
     Ok(())
+}
+
+fn append_either(
+    all: &mut Vec<u8>,
+    is_new: bool,
+    octets: &[u8],
+    place: &Option<Octets>,
+) -> Result<(), AllocError>
+    ensures { IfOk result (λ _. all.new.items ≡ all.old.items ++ (if is_new then octets.now else piece_at place.now)) }
+{
+    if is_new {
+        all.extend_from_slice(octets)?;
+        Ok(())
+    } else {
+        append(all, place)
+    }
 }
 
 fn note(set: &mut NumberSet, index: u16, place: &Option<Octets>)

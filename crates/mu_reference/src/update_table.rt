@@ -1,15 +1,17 @@
 // The table of a Firmware Update Server: a function for each message.
-ghost use Rattle.std.specs.Prelude.{ℕ, ◌≡◌, ◌<◌, false};
+ghost use Rattle.std.specs.Prelude.{ℕ, ◌≡◌, ◌<◌, ◌≤◌, false, IfErr, IfSome};
 ghost use Rattle.mu_model_node.specs.BlobServer.{unlinked, made_ready};
 ghost use Rattle.mu_model_node.specs.NodeOutcome.{with_session, with_job};
 ghost use Rattle.mu_model_node.specs.Events.{last_count};
 ghost use Rattle.mu_model_node.specs.NodeState.{update_phase, update_number};
-ghost use Rattle.mu_model_node.specs.UpdateTable.{update_status, same_meta, same_start, new_job, check, without_job, takes, on_update, on_update_start, on_update_cancel, on_update_apply};
+ghost use Rattle.mu_model_node.specs.UpdateTable.{status_of, update_status, same_meta, same_start, new_job, check, without_job, takes, on_update, on_update_start, on_update_cancel, on_update_apply};
 ghost use Rattle.mu_reference.specs.View.{there, job_of, state_of, update_phase_of};
-ghost use Rattle.mu_reference.specs.Messages.{update_reply_of, update_start_of};
+ghost use Rattle.mu_reference.specs.Messages.{update_start_of};
 ghost use Rattle.mu_reference.specs.UpdateRows.{JobIs, UpdatedAs, update_stepped, start_stepped, marked_applied};
+ghost use Rattle.mu_reference.specs.Fits.{IsKnown};
 ghost use Rattle.mu_model_node.specs.UpdateMessages.{MetadataCheck, UpdateGet, StartUpdate, UpdateCancel, UpdateApply};
 
+use crate::answers::UpdateAnswer;
 use crate::messages::{ShownJob, UpdateReply, UpdateStart};
 use crate::phases::{UpdatePhase, update_phase};
 use crate::recording::Stop;
@@ -23,7 +25,7 @@ use std::alloc::Global;
 #[derive(Drop)]
 pub struct Updated {
     /// The reply to its source.
-    pub reply: UpdateReply,
+    pub reply: UpdateAnswer,
     pub work: FlashWork,
 }
 
@@ -72,6 +74,17 @@ fn is_same_start(asked: UpdateStart, job: &Job) -> bool
     }
 }
 
+fn status_of(checked: Result<Meta, u8>) -> u8
+    requires { IfErr checked (λ status. status ≤ 7) }
+    ensures known { result ≤ 7 }
+    ensures is { result ≡ status_of checked }
+{
+    match checked {
+        Ok(_) => 0,
+        Err(status) => status,
+    }
+}
+
 impl State {
     /// The phase of the update.
     pub fn update_phase<'a>(&'a self) -> UpdatePhase<'a>
@@ -81,17 +94,26 @@ impl State {
         update_phase(&self.job, self.session.link)
     }
 
+    /// The phase of the update as it stands on the wire.
+    pub fn phase_number(&self) -> u8
+        ensures { result ≡ update_number (update_phase (state_of self.now)) }
+    {
+        number_of(self.update_phase())
+    }
+
     /// The Update Status of the node.
-    pub fn update_answer(&self, status: u8) -> UpdateReply
-        ensures { update_reply_of result ≡ update_status status (state_of self.now) }
+    #[tactic(auto, using(crate::proofs::Shown::phase_with_job, crate::proofs::Shown::phase_below))]
+    pub fn update_answer(&self, status: u8) -> UpdateAnswer
+        requires { status ≤ 7 }
+        ensures { result ≡ update_status status (state_of self.now) }
     {
         match &self.job {
-            None => UpdateReply::UpdateStatus {
+            None => UpdateAnswer::new(UpdateReply::UpdateStatus {
                 status,
                 phase: 0,
                 job: None,
-            },
-            Some(job) => UpdateReply::UpdateStatus {
+            }),
+            Some(job) => UpdateAnswer::new(UpdateReply::UpdateStatus {
                 status,
                 phase: number_of(self.update_phase()),
                 job: Some(ShownJob {
@@ -100,13 +122,14 @@ impl State {
                     id: job.id,
                     index: job.index,
                 }),
-            },
+            }),
         }
     }
 
     /// The metadata that are offered for an image, or the status that refuses them.
     pub fn check(&self, index: u8, metadata: &[u8]) -> Result<Meta, u8>
-        ensures { result ≡ check (state_of self.now).durable index metadata.now }
+        ensures known { IfErr result (λ status. status ≤ 7) }
+        ensures check { result ≡ check (state_of self.now).durable index metadata.now }
     {
         let Some(active) = self.images.get(usize::from(index)) else {
             return Err(4);
@@ -119,8 +142,10 @@ impl State {
         }
     }
 
-    fn start_step(&self, asked: UpdateStart) -> Option<UpdateStep>
-        ensures { (to : ℕ) → on_update_start (state_of self.now) to (update_start_of asked.entry) (update_phase (state_of self.now)) ≡ start_stepped (state_of self.now) to (update_start_of asked.entry) result }
+    /// What an Update Start does, or none where it may write a new job.
+    pub fn start_step(&self, asked: UpdateStart) -> Option<UpdateStep>
+        ensures known { IfSome result IsKnown }
+        ensures step { (to : ℕ) → on_update_start (state_of self.now) to (update_start_of asked.entry) (update_phase (state_of self.now)) ≡ start_stepped (state_of self.now) to (update_start_of asked.entry) result }
     {
         match self.update_phase() {
             UpdatePhase::Idle | UpdatePhase::Failed(_) => None,
@@ -150,8 +175,10 @@ impl State {
         }
     }
 
-    fn cancel_step(&self) -> UpdateStep
-        ensures { (to : ℕ) → on_update_cancel (state_of self.now) to (update_phase (state_of self.now)) ≡ update_stepped (state_of self.now) to result }
+    /// What an Update Cancel does.
+    pub fn cancel_step(&self) -> UpdateStep
+        ensures known { IsKnown result }
+        ensures step { (to : ℕ) → on_update_cancel (state_of self.now) to (update_phase (state_of self.now)) ≡ update_stepped (state_of self.now) to result }
     {
         match self.update_phase() {
             UpdatePhase::Idle => UpdateStep::Answer(0),
@@ -160,8 +187,10 @@ impl State {
         }
     }
 
-    fn apply_step(&self) -> UpdateStep
-        ensures { (to : ℕ) → on_update_apply (state_of self.now) to (update_phase (state_of self.now)) ≡ update_stepped (state_of self.now) to result }
+    /// What an Update Apply does.
+    pub fn apply_step(&self) -> UpdateStep
+        ensures known { IsKnown result }
+        ensures step { (to : ℕ) → on_update_apply (state_of self.now) to (update_phase (state_of self.now)) ≡ update_stepped (state_of self.now) to result }
     {
         match self.update_phase() {
             UpdatePhase::Succeeded(_) => UpdateStep::Apply,
@@ -219,7 +248,8 @@ impl State {
     }
 
     fn answer(&self, status: u8) -> Updated
-        ensures reply { update_reply_of result.reply ≡ update_status status (state_of self.now) }
+        requires { status ≤ 7 }
+        ensures reply { result.reply ≡ update_status status (state_of self.now) }
         ensures work { result.work ≡ FlashWork.Untouched }
     {
         Updated {
@@ -229,7 +259,7 @@ impl State {
     }
 
     fn recorded_answer(&self) -> Updated
-        ensures reply { update_reply_of result.reply ≡ update_status 0 (state_of self.now) }
+        ensures reply { result.reply ≡ update_status 0 (state_of self.now) }
         ensures work { result.work ≡ FlashWork.Recorded false }
     {
         Updated {
@@ -272,6 +302,7 @@ impl State {
     }
 
     fn do_step(&mut self, from: u16, step: UpdateStep) -> Result<Updated, Stop>
+        requires { IsKnown step }
         ensures { UpdatedAs (state_of self.old) from (update_stepped (state_of self.old) from step) result (state_of self.new) }
     {
         match step {
@@ -332,12 +363,9 @@ impl State {
     pub fn on_metadata_check(&self, from: u16, index: u8, metadata: &[u8]) -> Updated
         ensures { UpdatedAs (state_of self.now) from (on_update (state_of self.now) from (MetadataCheck index metadata.now)) (Ok result) (state_of self.now) }
     {
-        let status = match self.check(index, metadata) {
-            Ok(_) => 0,
-            Err(status) => status,
-        };
+        let status = status_of(self.check(index, metadata));
         Updated {
-            reply: UpdateReply::MetadataStatus { status, index },
+            reply: UpdateAnswer::new(UpdateReply::MetadataStatus { status, index }),
             work: FlashWork::Untouched,
         }
     }

@@ -207,8 +207,8 @@ impl NumberSet {
         numbers
     }
 
-    // The bit field of the set.
-    pub(crate) fn bit_field(&self) -> ArrayVec<u8, 374>
+    /// The bit field of the set: bit `k % 8` of octet `k / 8` is 1 where `k` is in it (MshMBT, Blocks Not Received).
+    pub fn bit_field(&self) -> ArrayVec<u8, 374>
         ensures { result.items ≡ bit_field self.now }
     {
         let mut octets = [0; 256];

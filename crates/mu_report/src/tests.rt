@@ -199,6 +199,16 @@ fn the_first_number_is_found_across_words(rt: HostRuntime) {
 }
 
 #[test]
+fn a_bit_field_has_a_bit_for_each_number(rt: HostRuntime) {
+    let empty: [u16; 0] = [];
+    assert_eq!(rt; set_of(0, &empty).bit_field().as_slice(), b"".as_slice());
+    assert_eq!(rt;
+        set_of(9, &[0, 8]).bit_field().as_slice(),
+        b"\x01\x01".as_slice()
+    );
+}
+
+#[test]
 fn a_report_takes_the_list_where_it_is_shorter(rt: HostRuntime) {
     let empty: [u16; 0] = [];
     assert!(rt; report_of(&set_of(1, &[0])) == Report::All);

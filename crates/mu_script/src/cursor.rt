@@ -1,13 +1,14 @@
 ghost use Rattle.std.specs.Prelude.{◌≡◌, ◌≤◌, [], length, IfOk};
 ghost use Rattle.mu_model_script.specs.Pieces.{tokens_of};
-ghost use Rattle.mu_model_script.specs.Tokens.{Number, Octets, Image, unicast, group_or_none, destination, number_in, octets_up_to, image};
+ghost use Rattle.mu_model_script.specs.Tokens.{Number, Octets, Image, Bits, unicast, group_or_none, destination, number_in, octets_up_to, image, pattern};
 ghost use Rattle.mu_model_script.specs.Lines.{next_token, nothing_left, value_at};
 ghost use Rattle.mu_script.specs.Cursor.{Reads, Gives, token_seen};
 ghost use Rattle.mu_script.specs.View.{content};
 
 use crate::events::Content;
-use crate::octets::{address, cut, image, is_group, is_unicast, number, octets};
+use crate::octets::{address, cut, image, is_group, is_unicast, number, octets, pattern};
 use arrayvec::ArrayVec;
+use mu_model_flash::Pattern;
 use mu_model_script::{LineFault, LineWhy};
 use std::marker::Model;
 
@@ -125,7 +126,7 @@ impl<'a> Tokens<'a> {
 
     /// A number in a range.
     #[tactic(auto, unfolding(mu_model_script::specs::Lines::value_at))]
-    pub(crate) fn number(&mut self, least: u32, most: u32) -> Result<u32, LineFault>
+    pub(crate) fn number(&mut self, least: u64, most: u64) -> Result<u64, LineFault>
         ensures reads { Reads Number result (value_at (number_in least most) self.old) self.new }
         ensures within { IfOk result (λ n. n ≤ most) }
     {
@@ -134,6 +135,20 @@ impl<'a> Tokens<'a> {
             Some(number) => Ok(number),
             None => Err(token.fault()),
         }
+    }
+
+    /// A number of pages.
+    pub(crate) fn pages(&mut self) -> Result<u16, LineFault>
+        ensures { Reads Number result (value_at (number_in 1 256) self.old) self.new }
+    {
+        Ok(self.number(1, 256)? as u16)
+    }
+
+    /// An image's version.
+    pub(crate) fn version(&mut self) -> Result<u32, LineFault>
+        ensures { Reads Number result (value_at (number_in 0 4294967295) self.old) self.new }
+    {
+        Ok(self.number(0, u32::MAX as u64)? as u32)
     }
 
     /// Octets in hexadecimal, 1 to as many as there is room for.
@@ -156,6 +171,18 @@ impl<'a> Tokens<'a> {
         let token = self.next()?;
         match image(token.octets) {
             Some(content) => Ok(content),
+            None => Err(token.fault()),
+        }
+    }
+
+    /// A pattern.
+    #[tactic(auto, unfolding(mu_model_script::specs::Lines::value_at))]
+    pub(crate) fn pattern(&mut self) -> Result<Pattern, LineFault>
+        ensures { Reads Bits result (value_at pattern self.old) self.new }
+    {
+        let token = self.next()?;
+        match pattern(token.octets) {
+            Some(pattern) => Ok(pattern),
             None => Err(token.fault()),
         }
     }

@@ -1,5 +1,6 @@
 use arrayvec::ArrayVec;
 use mu_codec::Payload;
+use mu_model_flash::Pattern;
 
 /// An image as a script gives it.
 #[derive(Debug, Drop)]
@@ -22,6 +23,24 @@ pub enum Event {
         version: u32,
         content: Content,
     },
+    /// The same with two images, each with its version.
+    Pair {
+        addr: u16,
+        group: u16,
+        pages: u16,
+        version: u32,
+        content: Content,
+        second_version: u32,
+        second_content: Content,
+    },
+    /// A node with one image, whose note is of the older form.
+    Old {
+        addr: u16,
+        group: u16,
+        pages: u16,
+        version: u32,
+        content: Content,
+    },
     /// A stranger sends a packet of 1 to 380 octets from a unicast address to a unicast address or a group.
     Say {
         from: u16,
@@ -33,8 +52,29 @@ pub enum Event {
         packet: u32,
         addr: u16,
     },
-    /// Shows the active image of the node at a unicast address.
+    /// A time event at the member at a unicast address, whose moment becomes this one (0 to 2^63 - 1 milliseconds)
+    /// where it is later.
+    Time {
+        addr: u16,
+        ms: u64,
+    },
+    /// The member at a unicast address is booted from its flash.
+    Cut {
+        addr: u16,
+    },
+    /// The power of the member at a unicast address goes at its flash operation `n` (1 to 1,000), and the pattern says
+    /// what that operation leaves of its range (a seed is at most 65,535).
+    Tear {
+        addr: u16,
+        n: u16,
+        pattern: Pattern,
+    },
+    /// Shows the active images of the node at a unicast address.
     Active {
+        addr: u16,
+    },
+    /// Shows the phases of the member at a unicast address.
+    Phase {
         addr: u16,
     },
 }

@@ -8,7 +8,9 @@ mod reading;
 
 pub use events::{Content, Event};
 pub use mu_codec::Payload;
+pub use mu_model_flash::Pattern;
 pub use mu_model_script::{LineFault, LineWhy};
+pub use octets::number;
 pub use reading::read_line;
 
 #[cfg(test)]

@@ -3,12 +3,13 @@ ghost use Rattle.std.specs.Char.{is_ascii_digit};
 ghost use Rattle.std.specs.List.{list_all, position};
 ghost use Rattle.std.specs.Option.{option_copied, option_map};
 ghost use Rattle.mu_model_script.specs.Pieces.{pieces};
-ghost use Rattle.mu_model_script.specs.Tokens.{digits_value, if_within, is_unicast, is_group, number_of, address_of, octets_of, after_prefix, made_of, content_of};
+ghost use Rattle.mu_model_script.specs.Tokens.{digits_value, if_within, is_unicast, is_group, number_of, address_of, octets_of, after_prefix, made_of, content_of, pattern_of};
 ghost use Rattle.mu_script.specs.Cursor.{pieces_behind, length_behind};
 ghost use Rattle.mu_script.specs.View.{content};
 
 use crate::events::Content;
 use arrayvec::ArrayVec;
+use mu_model_flash::Pattern;
 
 fn first_place(octets: &[u8], separator: u8) -> Option<usize>
     ensures { result ≡ position (λ octet. octet == separator) octets.now }
@@ -34,22 +35,22 @@ fn are_digits(octets: &[u8]) -> bool
 }
 
 /// The number that digits write, where it isn't above the most.
-fn digits_value(digits: &[u8], most: u32) -> Option<u32>
+fn digits_value(digits: &[u8], most: u64) -> Option<u64>
     requires { list_all is_ascii_digit digits.now ≡ true }
     ensures { result ≡ if_within 0 most (digits_value 0 digits.now) }
 {
-    let mut number: u64 = 0;
+    let mut number: u128 = 0;
     for digit in digits {
-        number = 10 * number + (*digit - b'0') as u64;
-        if number > most as u64 {
+        number = 10 * number + (*digit - b'0') as u128;
+        if number > most as u128 {
             return None;
         }
     }
-    Some(number as u32)
+    Some(number as u64)
 }
 
-/// A decimal number in a range.
-pub(crate) fn number(octets: &[u8], least: u32, most: u32) -> Option<u32>
+/// A decimal number in a range, without a sign and without leading zeros.
+pub fn number(octets: &[u8], least: u64, most: u64) -> Option<u64>
     ensures reads { result ≡ number_of least most octets.now }
     ensures within { IfSome result (λ n. n ≤ most) }
 {
@@ -117,11 +118,11 @@ fn made(text: &[u8]) -> Option<Content>
     if more.is_some() {
         return None;
     }
-    let seed = number(seed, 0, u16::MAX as u32)?;
+    let seed = number(seed, 0, u16::MAX as u64)?;
     let size = number(size, 1, 1_048_576)?;
     Some(Content::Made {
         seed: seed as u16,
-        size,
+        size: size as u32,
     })
 }
 
@@ -133,4 +134,23 @@ pub(crate) fn image(text: &[u8]) -> Option<Content>
         return octets(digits).map(Content::Hex);
     }
     made(text.strip_prefix(b"made:")?)
+}
+
+fn seeded(text: &[u8]) -> Option<Pattern>
+    ensures { result ≡ option_map Pattern.Made (number_of 0 65535 text.now) }
+{
+    Some(Pattern::Made(number(text, 0, u16::MAX as u64)?))
+}
+
+/// A pattern: `none` for the old bits, `all` for the new ones, or `made:SEED`.
+pub(crate) fn pattern(text: &[u8]) -> Option<Pattern>
+    ensures { result ≡ pattern_of text.now }
+{
+    if text == b"none".as_slice() {
+        return Some(Pattern::Old);
+    }
+    if text == b"all".as_slice() {
+        return Some(Pattern::New);
+    }
+    seeded(text.strip_prefix(b"made:")?)
 }

@@ -1,6 +1,6 @@
 ghost use Rattle.std.specs.Prelude.{◌≡◌, IfOk, IfSome};
 ghost use Rattle.std.specs.Option.{option_map};
-ghost use Rattle.mu_model_script.specs.Lines.{row_of, line_rows, node_row, say_row, deliver_row, active_row, event_by, line_event};
+ghost use Rattle.mu_model_script.specs.Lines.{row_of, line_rows, node_row, pair_row, old_row, say_row, deliver_row, time_row, cut_row, tear_row, active_row, phase_row, event_by, line_event};
 ghost use Rattle.mu_model_script.specs.Ranges.{IsInRange};
 ghost use Rattle.mu_script.specs.Cursor.{Gives};
 ghost use Rattle.mu_script.specs.View.{event};
@@ -13,9 +13,15 @@ use mu_model_script::{LineFault, LineWhy};
 /// The first token of a line.
 enum Word {
     Node,
+    Pair,
+    Old,
     Say,
     Deliver,
+    Time,
+    Cut,
+    Tear,
     Active,
+    Phase,
 }
 
 fn known_word(octets: &[u8]) -> Option<Word>
@@ -23,12 +29,24 @@ fn known_word(octets: &[u8]) -> Option<Word>
 {
     if octets == b"node".as_slice() {
         Some(Word::Node)
+    } else if octets == b"pair".as_slice() {
+        Some(Word::Pair)
+    } else if octets == b"old".as_slice() {
+        Some(Word::Old)
     } else if octets == b"say".as_slice() {
         Some(Word::Say)
     } else if octets == b"deliver".as_slice() {
         Some(Word::Deliver)
+    } else if octets == b"time".as_slice() {
+        Some(Word::Time)
+    } else if octets == b"cut".as_slice() {
+        Some(Word::Cut)
+    } else if octets == b"tear".as_slice() {
+        Some(Word::Tear)
     } else if octets == b"active".as_slice() {
         Some(Word::Active)
+    } else if octets == b"phase".as_slice() {
+        Some(Word::Phase)
     } else {
         None
     }
@@ -39,14 +57,54 @@ fn node(mut tokens: Tokens) -> Result<Event, LineFault>
 {
     let addr = tokens.unicast()?;
     let group = tokens.group_or_none()?;
-    let pages = tokens.number(1, 256)?;
-    let version = tokens.number(0, u32::MAX)?;
+    let pages = tokens.pages()?;
+    let version = tokens.version()?;
     let content = tokens.image()?;
     tokens.end()?;
     Ok(Event::Node {
         addr,
         group,
-        pages: pages as u16,
+        pages,
+        version,
+        content,
+    })
+}
+
+fn pair(mut tokens: Tokens) -> Result<Event, LineFault>
+    ensures { Gives event result (event_by pair_row tokens.entry) }
+{
+    let addr = tokens.unicast()?;
+    let group = tokens.group_or_none()?;
+    let pages = tokens.pages()?;
+    let version = tokens.version()?;
+    let content = tokens.image()?;
+    let second_version = tokens.version()?;
+    let second_content = tokens.image()?;
+    tokens.end()?;
+    Ok(Event::Pair {
+        addr,
+        group,
+        pages,
+        version,
+        content,
+        second_version,
+        second_content,
+    })
+}
+
+fn old(mut tokens: Tokens) -> Result<Event, LineFault>
+    ensures { Gives event result (event_by old_row tokens.entry) }
+{
+    let addr = tokens.unicast()?;
+    let group = tokens.group_or_none()?;
+    let pages = tokens.pages()?;
+    let version = tokens.version()?;
+    let content = tokens.image()?;
+    tokens.end()?;
+    Ok(Event::Old {
+        addr,
+        group,
+        pages,
         version,
         content,
     })
@@ -65,10 +123,37 @@ fn say(mut tokens: Tokens) -> Result<Event, LineFault>
 fn deliver(mut tokens: Tokens) -> Result<Event, LineFault>
     ensures { Gives event result (event_by deliver_row tokens.entry) }
 {
-    let packet = tokens.number(0, u32::MAX)?;
+    let packet = tokens.number(0, u32::MAX as u64)? as u32;
     let addr = tokens.unicast()?;
     tokens.end()?;
     Ok(Event::Deliver { packet, addr })
+}
+
+fn time(mut tokens: Tokens) -> Result<Event, LineFault>
+    ensures { Gives event result (event_by time_row tokens.entry) }
+{
+    let addr = tokens.unicast()?;
+    let ms = tokens.number(0, 9_223_372_036_854_775_807)?;
+    tokens.end()?;
+    Ok(Event::Time { addr, ms })
+}
+
+fn cut(mut tokens: Tokens) -> Result<Event, LineFault>
+    ensures { Gives event result (event_by cut_row tokens.entry) }
+{
+    let addr = tokens.unicast()?;
+    tokens.end()?;
+    Ok(Event::Cut { addr })
+}
+
+fn tear(mut tokens: Tokens) -> Result<Event, LineFault>
+    ensures { Gives event result (event_by tear_row tokens.entry) }
+{
+    let addr = tokens.unicast()?;
+    let n = tokens.number(1, 1000)? as u16;
+    let pattern = tokens.pattern()?;
+    tokens.end()?;
+    Ok(Event::Tear { addr, n, pattern })
 }
 
 fn active(mut tokens: Tokens) -> Result<Event, LineFault>
@@ -79,14 +164,28 @@ fn active(mut tokens: Tokens) -> Result<Event, LineFault>
     Ok(Event::Active { addr })
 }
 
+fn phase(mut tokens: Tokens) -> Result<Event, LineFault>
+    ensures { Gives event result (event_by phase_row tokens.entry) }
+{
+    let addr = tokens.unicast()?;
+    tokens.end()?;
+    Ok(Event::Phase { addr })
+}
+
 fn event_by_word(word: Word, tokens: Tokens) -> Result<Event, LineFault>
     ensures { Gives event result (event_by (row word) tokens.entry) }
 {
     match word {
         Word::Node => node(tokens),
+        Word::Pair => pair(tokens),
+        Word::Old => old(tokens),
         Word::Say => say(tokens),
         Word::Deliver => deliver(tokens),
+        Word::Time => time(tokens),
+        Word::Cut => cut(tokens),
+        Word::Tear => tear(tokens),
         Word::Active => active(tokens),
+        Word::Phase => phase(tokens),
     }
 }
 

@@ -1,7 +1,9 @@
 pub mod Told
-pub mod Events
 pub mod WordLists
 pub mod Cuts
 pub mod Places
 pub mod Working
 pub mod PayloadLines
+mod HeldRuns
+mod ImageTexts
+mod Refusals

@@ -7,16 +7,16 @@ use Rattle.mu_model_script.specs.Pieces.{pieces, line_feed}
 use Rattle.mu_model_script.specs.Limits.{most_octets, most_in_line, lines_in, lines_within, first_lines, Passes}
 use Rattle.mu_model_script.specs.Runs.{Run, Prints, Refuses}
 use Rattle.mu_model_script.specs.Texts.{refused_text}
-use Rattle.mu_top.specs.Ends.{Doing, Barring, EndsWith, Ends, Completes, EndsAsItMust, Told, IsWhole, IsRefused, IsTooLong, IsInPart, IsTraceOfSome, IsBeginning}
+use Rattle.mu_top.specs.Ends.{Doing, Barring, Wearing, EndsWith, Ends, Completes, EndsAsItMust, NoneRefused, NoneWears, NoneDone, OrNoMemory, Told, IsWhole, IsRefused, IsWornOut, IsTooLong, IsInPart, IsTraceOfSome, IsBeginning}
 use Rattle.mu_top.specs.LineDone.{StopsLine, EndsAt}
 use Rattle.mu_top.specs.Reading.{IsPart, Reader, to_come, WhereTold, IsAtRest, NextLine, GivesLine, Took, Wrote, WroteSome}
 use Rattle.mu_top.specs.declared.reader.Next.{Next}
 use Rattle.mu_top.specs.declared.reader.Next.TheVariants.{Line, Last, End}
 use Rattle.mu_top.specs.declared.reader.ReadStop.TheVariants as Stop
-use Rattle.mu_top.specs.declared.status.Status.TheVariants.{Done, Usage, SourceFault, SinkFault, Refused as IsRefusedStatus, NoMemory, TooLong}
+use Rattle.mu_top.specs.declared.status.Status.TheVariants.{Done, Usage, SourceFault, SinkFault, Refused as IsRefusedStatus, NoMemory, Worn, TooLong}
 use Rattle.mu_top.specs.declared.status.Status.{Status}
 use Rattle.mu_top.specs.declared.work.LineStop.{LineStop}
-use Rattle.mu_top.specs.declared.work.LineStop.TheVariants.{Memory, Sink, Refused as RefusedLine}
+use Rattle.mu_top.specs.declared.work.LineStop.TheVariants.{Memory, Worn as WornLine, Sink, Refused as RefusedLine}
 use Rattle.mu_top.proofs.Told.{Both, both_self, both_map, both_source, both_sink, where_told}
 use Rattle.mu_top.proofs.Cuts.{lines_in_front, lines_in_end, lines_in_line, lines_in_last, lines_in_long, lines_in_part, lines_in_more, pieces_at, pieces_ended, ended_front}
 
@@ -24,7 +24,7 @@ use Rattle.mu_top.proofs.Cuts.{lines_in_front, lines_in_end, lines_in_line, line
 abbrev pub BarsLong : {W : Type 0} → Barring W → Type 0
 BarsLong {W} Bars = (state : W) (line : List ℕ) → 4096 < length line → Bars state line 4096 (codes "long")
 
-module _ {W : Type 0} (Does : Doing W) (Bars : Barring W) (start : W) (most : ℕ) where
+module _ {W : Type 0} (Does : Doing W) (Bars : Barring W) (Wears : Wearing W) (start : W) (most : ℕ) where
   -- Between two lines: the octets of the input that are done and those to come, how many lines are done, the world that they
   -- have led to, and what they have printed.
   pub record Working (held rest : List ℕ) (given : ℕ) (world : W) (count : ℕ) (written : List ℕ) : Type 0 where
@@ -145,6 +145,15 @@ module _ {W : Type 0} (Does : Doing W) (Bars : Barring W) (start : W) (most : �
     is = lines_on r ∙ ap (λ ls. r.done ++ ls) (lines_in_last (most_octets - given) line is some (omega arith));
   }
 
+  -- the lines up to one, within the limit
+  take_through : (done : List (List ℕ)) (line : List ℕ) (later : List (List ℕ)) (count n : ℕ) → count ≡ length done → count + 1 ≤ n → take n (done ++ line ∷ later) ≡ done ++ line ∷ take (n - (count + 1)) later
+  take_through done line later count n counted few =
+      let regrouped = append_assoc done (line ∷ []) later in
+      let len : length (done ++ line ∷ []) ≡ count + 1 = omega (arith, length-append done (line ∷ []), counted) in
+      let split : count + 1 + (n - (count + 1)) ≡ n = omega arith in
+      ap (take n) (sym regrouped) ∙ (ap (λ k. take k ((done ++ line ∷ []) ++ later)) (sym split ∙ ap (λ k. k + (n - (count + 1))) (sym len))
+      ∙ (take-append-add (done ++ line ∷ []) later (n - (count + 1)) ∙ append_assoc done (line ∷ []) (take (n - (count + 1)) later)))
+
   -- a line that is refused
   pub refused_next : (held rest line : List ℕ) (given count place : ℕ) (world : W) (written word : List ℕ) → (r : Working held rest given world count written) → NextIs held r.done line
       → count + 1 ≤ most → Bars world line place word → Refuses Does Bars start (first_lines most held) written (count + 1) place word
@@ -158,14 +167,6 @@ module _ {W : Type 0} (Does : Doing W) (Bars : Barring W) (start : W) (most : �
     refused = refused;
     numbered = ap (λ k. k + 1) r.counted;
   }
-    where
-      take_through : (done : List (List ℕ)) (line : List ℕ) (later : List (List ℕ)) (count n : ℕ) → count ≡ length done → count + 1 ≤ n → take n (done ++ line ∷ later) ≡ done ++ line ∷ take (n - (count + 1)) later
-      take_through done line later count n counted few =
-          let regrouped = append_assoc done (line ∷ []) later in
-          let len : length (done ++ line ∷ []) ≡ count + 1 = omega (arith, length-append done (line ∷ []), counted) in
-          let split : count + 1 + (n - (count + 1)) ≡ n = omega arith in
-          ap (take n) (sym regrouped) ∙ (ap (λ k. take k ((done ++ line ∷ []) ++ later)) (sym split ∙ ap (λ k. k + (n - (count + 1))) (sym len))
-          ∙ (take-append-add (done ++ line ∷ []) later (n - (count + 1)) ∙ append_assoc done (line ∷ []) (take (n - (count + 1)) later)))
 
   -- a line that is longer than a line may be
   pub long_next : BarsLong Bars → (held line rest : List ℕ) (octet given count : ℕ) (world : W) (written : List ℕ) → Working held ((line ++ octet ∷ []) ++ rest) given world count written → IsPart (line ++ octet ∷ [])
@@ -233,7 +234,7 @@ module _ {W : Type 0} (Does : Doing W) (Bars : Barring W) (start : W) (most : �
   Between reader world count held left before after = (written : List ℕ) × (after ≡ before ++ written) × Working held (to_come reader left) reader.given world count written
 
   abbrev pub Ended : Status → List ℕ → List ℕ → List ℕ → List ℕ → Type 0
-  Ended status held left before after = (written : List ℕ) × (after ≡ before ++ written) × EndsWith Does Bars start most held left written status
+  Ended status held left before after = (written : List ℕ) × (after ≡ before ++ written) × EndsWith Does Bars Wears start most held left written status
 
   abbrev pub IsBetween : (S0 S1 K0 K1 : Option (List ℕ)) → Reader → W → ℕ → Type 0
   IsBetween S0 S1 K0 K1 reader world count = Both S0 S1 K0 K1 (Between reader world count)
@@ -324,6 +325,7 @@ module _ {W : Type 0} (Does : Doing W) (Bars : Barring W) (start : W) (most : �
         in_part held (h.text ++ line) h.text line wrote.0 refl (inr (record { text = h.text; number = number; place = place; word = word; refused = h.refused; written_is = refl })),
       )) x told
   refused_told S0 S1 K0 K1 K2 X number place word NoMemory f x told = absurd told
+  refused_told S0 S1 K0 K1 K2 X number place word Worn f x told = absurd told
   refused_told S0 S1 K0 K1 K2 X number place word Done f x told = absurd told
   refused_told S0 S1 K0 K1 K2 X number place word Usage f x told = absurd told
   refused_told S0 S1 K0 K1 K2 X number place word SourceFault f x told = absurd told
@@ -415,6 +417,24 @@ module _ {W : Type 0} (Does : Doing W) (Bars : Barring W) (start : W) (most : �
   memory_lacks S0 S1 K0 K1 old new world count next = both_map S0 S1 K0 K1 _ _ (λ held left before after h.
       (h.written, h.is, some_done held (to_come old h.left_before) old.given count world h.written h.between))
 
+  -- the line would wear out a flash
+  flash_worn : (S0 S1 K0 K1 : Option (List ℕ)) (old new : Reader) (world : W) (count : ℕ) (next : Next) → count + 1 ≤ most → Wears world new.line → Both S0 S1 K0 K1 (Holding old new world count next)
+      → Both S0 S1 K0 K1 (Ended Worn)
+  flash_worn S0 S1 K0 K1 old new world count next few worn = both_map S0 S1 K0 K1 _ _ (λ held left before after h.
+      let n = is_next held left h.left_before old new world count h.written next h.between h.came in (
+        h.written,
+        h.is,
+        record {
+          before = n.between.done;
+          line = new.line;
+          others = take (most - (count + 1)) n.next.later;
+          cut = ap (take most) n.next.is ∙ take_through n.between.done new.line n.next.later count most n.between.counted few;
+          end = world;
+          run = n.between.run;
+          wears = worn;
+        },
+      ))
+
   -- the sink failed at the line's text
   line_unwritten : (S0 S1 K0 K1 K2 : Option (List ℕ)) (old new : Reader) (world end : W) (count : ℕ) (next : Next) (text : List ℕ) → count + 1 ≤ most → Does world new.line text end
       → Both S0 S1 K0 K1 (Holding old new world count next) → WroteSome K1 K2 text → Both S0 S1 K0 K2 (Ended SinkFault)
@@ -427,9 +447,11 @@ module _ {W : Type 0} (Does : Doing W) (Bars : Barring W) (start : W) (most : �
 
   -- the line wasn't done
   pub line_stopped : (S0 S1 K0 K1 K2 K3 : Option (List ℕ)) (old new : Reader) (world : W) (count : ℕ) (next : Next) (stop : LineStop) (status : Status) → count + 1 ≤ most
-      → StopsLine Does Bars world new.line K1 K2 stop → Both S0 S1 K0 K1 (Holding old new world count next) → EndsAt K2 K3 (count + 1) stop status → Both S0 S1 K0 K3 (Ended status)
+      → StopsLine Does Bars Wears world new.line K1 K2 stop → Both S0 S1 K0 K1 (Holding old new world count next) → EndsAt K2 K3 (count + 1) stop status → Both S0 S1 K0 K3 (Ended status)
   line_stopped S0 S1 K0 K1 K2 K3 old new world count next Memory status few stops holding ends =
       rw (ends.0, ends.1, stops) (memory_lacks S0 S1 K0 K1 old new world count next holding)
+  line_stopped S0 S1 K0 K1 K2 K3 old new world count next WornLine status few stops holding ends =
+      rw (ends.0, ends.1, stops.1) (flash_worn S0 S1 K0 K1 old new world count next few stops.0 holding)
   line_stopped S0 S1 K0 K1 K2 K3 old new world count next Sink status few stops holding ends =
       rw (ends.0, ends.1) (line_unwritten S0 S1 K0 K1 K2 old new world stops.next count next stops.text few stops.does holding stops.wrote)
   line_stopped S0 S1 K0 K1 K2 K3 old new world count next (RefusedLine place word) status few stops holding ends =
@@ -464,35 +486,56 @@ module _ {W : Type 0} (Does : Doing W) (Bars : Barring W) (start : W) (most : �
 
   -- ---- where neither the source nor the sink fails
 
-  ended : ((lines : List (List ℕ)) (text whole : List ℕ) (number place : ℕ) (word : List ℕ) → Refuses Does Bars start lines text number place word → Prints Does start lines whole → ⊥)
-      → (held left written : List ℕ) (status : Status) → EndsWith Does Bars start most held left written status → (status ≡ SourceFault → ⊥) → (status ≡ SinkFault → ⊥) → EndsAsItMust Does Bars start most held status
-  ended law held left written Done ends reads writes = record {
-    sound = λ within none. inl refl;
-    refused = λ text line place word refuses. absurd (law (first_lines most held) text written line place word refuses ends.trace);
-    too_long = λ past none. absurd (ends.within past);
-  }
-  ended law held left written NoMemory ends reads writes = record {
-    sound = λ within none. inr refl;
-    refused = λ text line place word refuses. inr refl;
-    too_long = λ past none. inr refl;
-  }
-  ended law held left written IsRefusedStatus ends reads writes = record {
-    sound = λ within none. absurd (none ends.text ends.number ends.place ends.word ends.refused);
-    refused = λ text line place word refuses. inl refl;
-    too_long = λ past none. absurd (none ends.text ends.number ends.place ends.word ends.refused);
-  }
-  ended law held left written TooLong ends reads writes = record {
-    sound = λ within none. absurd (within ends.past);
-    refused = λ text line place word refuses. absurd (law (first_lines most held) text written line place word refuses ends.trace);
-    too_long = λ past none. inl refl;
-  }
-  ended law held left written SourceFault ends reads writes = absurd (reads refl)
-  ended law held left written SinkFault ends reads writes = absurd (writes refl)
-  ended law held left written Usage ends reads writes = absurd ends
+  abbrev Must : List ℕ → Status → Type 0
+  Must held status = EndsAsItMust Does Bars Wears start most held status
 
-  pub completes : ((lines : List (List ℕ)) (text whole : List ℕ) (number place : ℕ) (word : List ℕ) → Refuses Does Bars start lines text number place word → Prints Does start lines whole → ⊥)
-      → (source source' sink sink' : Option (List ℕ)) (status : Status) → Ends Does Bars start most source source' sink sink' status → (status ≡ SourceFault → ⊥) → (status ≡ SinkFault → ⊥)
-      → Completes Does Bars start most source source' sink sink' status
-  completes law source source' sink sink' status ends reads writes =
+  pub must_end : (held left written : List ℕ) (status : Status) → EndsWith Does Bars Wears start most held left written status → (status ≡ SourceFault → ⊥) → (status ≡ SinkFault → ⊥) → Must held status
+  must_end held left written Done ends reads writes = record {
+    done = λ within none unworn. inl refl;
+    too_long = λ past none unworn. absurd (ends.within past);
+    refused = λ undone unworn. absurd (undone written ends.trace);
+    worn = λ undone none. absurd (undone written ends.trace);
+  }
+  must_end held left written NoMemory ends reads writes = record {
+    done = λ within none unworn. inr refl;
+    too_long = λ past none unworn. inr refl;
+    refused = λ undone unworn. inr refl;
+    worn = λ undone none. inr refl;
+  }
+  must_end held left written IsRefusedStatus ends reads writes = record {
+    done = λ within none unworn. absurd (none ends.text ends.number ends.place ends.word ends.refused);
+    too_long = λ past none unworn. absurd (none ends.text ends.number ends.place ends.word ends.refused);
+    refused = λ undone unworn. inl refl;
+    worn = λ undone none. absurd (none ends.text ends.number ends.place ends.word ends.refused);
+  }
+  must_end held left written Worn ends reads writes = record {
+    done = λ within none unworn. absurd (unworn written ends);
+    too_long = λ past none unworn. absurd (unworn written ends);
+    refused = λ undone unworn. absurd (unworn written ends);
+    worn = λ undone none. inl refl;
+  }
+  must_end held left written TooLong ends reads writes = record {
+    done = λ within none unworn. absurd (within ends.past);
+    too_long = λ past none unworn. inl refl;
+    refused = λ undone unworn. absurd (undone written ends.trace);
+    worn = λ undone none. absurd (undone written ends.trace);
+  }
+  must_end held left written SourceFault ends reads writes = absurd (reads refl)
+  must_end held left written SinkFault ends reads writes = absurd (writes refl)
+  must_end held left written Usage ends reads writes = absurd ends
+
+  pub completes : (All : List ℕ → Status → Type 0)
+      → ((held left written : List ℕ) (status : Status) → EndsWith Does Bars Wears start most held left written status → Must held status → (status ≡ SourceFault → ⊥) → (status ≡ SinkFault → ⊥) → All held status)
+      → (source source' sink sink' : Option (List ℕ)) (status : Status) → Ends Does Bars Wears start most source source' sink sink' status → (status ≡ SourceFault → ⊥) → (status ≡ SinkFault → ⊥)
+      → Completes All source source' sink sink' status
+  completes All all source source' sink sink' status ends reads writes =
       where_told source source' _ _ (λ held left p.
-      where_told sink sink' _ _ (λ before after q. ended law held left q.0 status q.2 reads writes) p) ends
+      where_told sink sink' _ _ (λ before after q. all held left q.0 status q.2 (must_end held left q.0 status q.2 reads writes) reads writes) p) ends
+
+  -- where a line that is refused in a run leaves no run of all lines
+  pub alone : (held left written : List ℕ) (status : Status)
+      → ((text whole : List ℕ) (number place : ℕ) (word : List ℕ) → Refuses Does Bars start (first_lines most held) text number place word → Prints Does start (first_lines most held) whole → ⊥)
+      → Must held status → NoneWears Does Wears start most held
+      → (text : List ℕ) (number place : ℕ) (word : List ℕ) → Refuses Does Bars start (first_lines most held) text number place word → OrNoMemory IsRefusedStatus status
+  alone held left written status law must unworn text number place word refuses =
+      must.refused (λ whole prints. law text whole number place word refuses prints) unworn

@@ -1,6 +1,4 @@
 pub mod Reading
-pub mod Grammar
-pub mod Moved
 pub mod Words
 pub mod Status
 pub mod Ends
@@ -8,3 +6,5 @@ pub mod Replay
 pub mod LineDone
 pub mod Payloads
 pub mod PayloadDone
+pub mod HeldRun
+pub mod Images

@@ -2,7 +2,7 @@
 use Rattle.std.specs.Prelude.{◌≡◌, ℕ, ◌+◌, ◌%◌, ◌==◌, nat_lt, List, [], ◌∷◌, ◌++◌, length, codes, Option, Some, None, Result, Ok, Err, if◌then◌else◌}
 use Rattle.hex.specs.Hex.{decode_of, encode_lower, is_hex_digit}
 use Rattle.hex.specs.declared.error.FromHexError.{FromHexError}
-use Rattle.mu_model_script.specs.Limits.{most_in_line, most_octets}
+use Rattle.mu_model_script.specs.Limits.{most_in_line, most_octets, first_lines}
 use Rattle.mu_model_script.specs.Lines.{is_silent}
 use Rattle.mu_model_script.specs.Pieces.{line_feed}
 use Rattle.mu_model_wire.specs.Fields.{Message}
@@ -15,7 +15,10 @@ use Rattle.mu_model_wire.specs.declared.Why.TheVariants.{Opcode, Short, Value, L
 use Rattle.mu_shown.specs.Lines.{shown_line}
 use Rattle.mu_top.specs.declared.payloads.PayloadText.{PayloadText}
 use Rattle.mu_top.specs.declared.payloads.PayloadText.TheVariants.{Canonical, Shown}
-use Rattle.mu_top.specs.Ends.{Doing, Barring, Ends, Completes, ByNumber}
+use Rattle.mu_model_script.specs.Runs as runs
+use Rattle.mu_top.specs.Ends.{Doing, Barring, Wearing, Ends, EndsAsItMust, OrNoMemory, Completes, ByNumber}
+use Rattle.mu_top.specs.declared.status.Status.{Status}
+use Rattle.mu_top.specs.declared.status.Status.TheVariants.{Refused as RefusedStatus}
 
 -- what a line comes to
 pub data PayloadLine : Type 0 where
@@ -81,10 +84,19 @@ DoesPayload w line text next = (next ≡ w) × Prints (printed w) (payload_line 
 abbrev pub BarsPayload : Barring PayloadText
 BarsPayload w line place word = payload_line line ≡ Refused place word
 
+-- no payload wears out a flash
+abbrev pub WearsPayload : Wearing PayloadText
+WearsPayload w line = ⊥
+
 -- what a command that prints payloads so promises
 abbrev pub PrintsPayloads : PayloadText → (source source' sink sink' : Option (List ℕ)) (number : ℕ) → Type 0
-PrintsPayloads text source source' sink sink' number = ByNumber (Ends DoesPayload BarsPayload text most_octets source source' sink sink') number
+PrintsPayloads text source source' sink sink' number = ByNumber (Ends DoesPayload BarsPayload WearsPayload text most_octets source source' sink sink') number
+
+-- how an input of payloads ends that is read to its end or to its first fault, and whose text can be written
+pub record PayloadsEnd (text : PayloadText) (held : List ℕ) (status : Status) : Type 0 where
+  pub must : EndsAsItMust DoesPayload BarsPayload WearsPayload text most_octets held status
+  pub refused : (written : List ℕ) (number place : ℕ) (word : List ℕ) → runs.Refuses DoesPayload BarsPayload text (first_lines most_octets held) written number place word → OrNoMemory RefusedStatus status
 
 -- where neither the source nor the sink fails
 abbrev pub PayloadsComplete : PayloadText → (source source' sink sink' : Option (List ℕ)) (number : ℕ) → Type 0
-PayloadsComplete text source source' sink sink' number = ByNumber (Completes DoesPayload BarsPayload text most_octets source source' sink sink') number
+PayloadsComplete text source source' sink sink' number = ByNumber (Completes (PayloadsEnd text) source source' sink sink') number

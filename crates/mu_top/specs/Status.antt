@@ -1,7 +1,7 @@
 -- The numbers of statuses.
 use Rattle.std.specs.Prelude.{ℕ}
 use Rattle.mu_top.specs.declared.status.Status.{Status}
-use Rattle.mu_top.specs.declared.status.Status.TheVariants.{Done, Usage, SourceFault, SinkFault, Refused, NoMemory, TooLong}
+use Rattle.mu_top.specs.declared.status.Status.TheVariants.{Done, Usage, SourceFault, SinkFault, Refused, NoMemory, Worn, TooLong}
 
 abbrev pub number_of : Status → ℕ
 number_of Done = 0
@@ -10,4 +10,5 @@ number_of SourceFault = 3
 number_of SinkFault = 4
 number_of Refused = 7
 number_of NoMemory = 9
+number_of Worn = 12
 number_of TooLong = 14

@@ -2,11 +2,10 @@
 #![tactic(auto)]
 
 mod call;
-mod grammar;
+mod image;
 mod line;
-mod lines;
-mod member;
-mod node;
+#[cfg(test)]
+mod node_tests;
 mod payload;
 mod payloads;
 mod reader;
@@ -16,7 +15,6 @@ mod status;
 mod tests;
 mod words;
 mod work;
-mod world;
 mod writing;
 
 pub use call::{Ended, top};

@@ -1,13 +1,14 @@
 // One line of a script.
-ghost use Rattle.std.specs.Prelude.{◌≡◌, ◌≤◌, length, slice_get, OnOk, IfErr};
+ghost use Rattle.std.specs.Prelude.{◌≡◌, ◌≤◌, ◌<◌, ◌+◌, length, slice_get, OnOk, IfErr, None};
 ghost use Rattle.mu_model_script.specs.Pieces.{tokens_of};
-ghost use Rattle.mu_model_world.specs.Judged.{place_at};
+ghost use Rattle.mu_model_script.specs.Texts.{bad_word, line_word};
+ghost use Rattle.mu_model_world.specs.Judged.{most_events, place_at};
 ghost use Rattle.mu_top.specs.LineDone.{Does, Stops};
 
-use crate::lines::{Lines, bad_word, line_word};
 use crate::work::LineStop;
-use crate::world::{World, WorldFault};
+use mu_model_script::{BadWhy, LineWhy};
 use mu_script::read_line;
+use mu_world::{Lines, World, WorldFault};
 
 /// The place of the first octet of a token, by its number in the line from 0.
 fn place_of(line: &[u8], token: u8) -> u16
@@ -29,11 +30,37 @@ fn place_of(line: &[u8], token: u8) -> u16
     0
 }
 
+/// The word of a refusal of a line by itself.
+fn line_word(why: LineWhy) -> &'static [u8]
+    ensures { result.now ≡ line_word why }
+{
+    match why {
+        LineWhy::Token => b"token",
+        LineWhy::Long => b"long",
+    }
+}
+
+/// The word of a refusal of a line in its world.
+fn bad_word(why: BadWhy) -> &'static [u8]
+    ensures { result.now ≡ bad_word why }
+{
+    match why {
+        BadWhy::Token => b"token",
+        BadWhy::Member => b"member",
+        BadWhy::Packet => b"packet",
+        BadWhy::Premise => b"premise",
+    }
+}
+
 /// Does one line of a script, and prints what it prints. A refused line changes nothing.
 pub(crate) fn do_line(world: &mut World, line: &[u8], lines: &mut Lines) -> Result<(), LineStop>
-    requires { length line.now ≤ 4096 }
-    ensures ok { OnOk result (Does world.old line.now lines.old lines.new world.new) }
-    ensures err { IfErr result (Stops world.old line.now) }
+    requires short { length line.now ≤ 4096 }
+    requires few { world.old.world.events < most_events }
+    requires going { world.old.fault ≡ None }
+    ensures ok { OnOk result (Does world.old.world line.now lines.old lines.new world.new.world) }
+    ensures going { OnOk result (world.new.fault ≡ None) }
+    ensures few { OnOk result (world.new.world.events ≤ world.old.world.events + 1) }
+    ensures err { IfErr result (Stops world.old.world line.now) }
 {
     let event = match read_line(line) {
         Ok(Some(event)) => event,
@@ -48,6 +75,11 @@ pub(crate) fn do_line(world: &mut World, line: &[u8], lines: &mut Lines) -> Resu
     match world.line(&event, lines) {
         Ok(()) => Ok(()),
         Err(WorldFault::Memory) => Err(LineStop::Memory),
+        Err(WorldFault::Worn { .. }) => Err(LineStop::Worn),
+        Err(WorldFault::TooLong) => {
+            prove!(false);
+            Err(LineStop::Memory)
+        }
         Err(WorldFault::Bad { token, why }) => Err(LineStop::Refused {
             place: place_of(line, token),
             word: bad_word(why),

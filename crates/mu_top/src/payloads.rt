@@ -7,7 +7,7 @@ ghost use Rattle.mu_access.specs.View.{InRange, view};
 ghost use Rattle.mu_model_flash.specs.Cause.{HasCause, Rose};
 ghost use Rattle.mu_model_script.specs.Limits.{most_octets};
 ghost use Rattle.mu_top.specs.Ends.{Completes, Ends};
-ghost use Rattle.mu_top.specs.Payloads.{BarsPayload, DoesPayload, printed};
+ghost use Rattle.mu_top.specs.Payloads.{BarsPayload, DoesPayload, PayloadsEnd, WearsPayload, printed};
 
 use crate::payload::read_payload;
 use crate::status::Status;
@@ -34,13 +34,20 @@ impl LineWork for PayloadText {
     ghost use Rattle.std.proofs.Common.{refl};
     ghost use Rattle.mu_model_flash.specs.Cause.{Rose};
     ghost use Rattle.mu_top.specs.LineDone.{DidLine, StopsLine};
-    ghost use Rattle.mu_top.specs.Payloads.{BarsPayload, DoesPayload};
+    ghost use Rattle.mu_model_script.specs.Limits.{most_octets};
+    ghost use Rattle.mu_top.specs.Payloads.{BarsPayload, DoesPayload, WearsPayload};
 
     ghost does = { DoesPayload };
 
     ghost bars = { BarsPayload };
 
+    ghost wears = { WearsPayload };
+
     ghost grows = { λ _. ⊥ };
+
+    ghost most = { most_octets };
+
+    ghost goes_on = { λ _ _. Unit {0} };
 
     ghost too_long = { λ state line long. rw (lt-ltb 4096 (length line) long) refl };
 
@@ -92,9 +99,9 @@ pub(crate) fn print_payloads<S: Source, K: Sink>(
     source: &mut S,
     sink: &mut K,
 ) -> Status
-    ensures ends { Ends DoesPayload BarsPayload text most_octets (S.left source.old) (S.left source.new) (K.written sink.old) (K.written sink.new) result }
+    ensures ends { Ends DoesPayload BarsPayload WearsPayload text most_octets (S.left source.old) (S.left source.new) (K.written sink.old) (K.written sink.new) result }
     ensures complete { (Rose (S.faults source.old) (S.faults source.new) → ⊥) → (Rose (K.faults sink.old) (K.faults sink.new) → ⊥)
-        → Completes DoesPayload BarsPayload text most_octets (S.left source.old) (S.left source.new) (K.written sink.old) (K.written sink.new) result }
+        → Completes (PayloadsEnd text) (S.left source.old) (S.left source.new) (K.written sink.old) (K.written sink.new) result }
     ensures source { result ≡ Status.SourceFault → Rose (S.faults source.old) (S.faults source.new) }
     ensures sink { result ≡ Status.SinkFault → Rose (K.faults sink.old) (K.faults sink.new) }
     ensures memory { result ≢ Status.NoMemory }

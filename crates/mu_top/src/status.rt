@@ -17,6 +17,8 @@ pub enum Status {
     Refused,
     /// Want of memory.
     NoMemory,
+    /// The last record of a flash was written, and another is due.
+    Worn,
     /// A limit of the input was passed.
     TooLong,
 }
@@ -36,6 +38,7 @@ impl Status {
             Status::SinkFault => 4,
             Status::Refused => 7,
             Status::NoMemory => 9,
+            Status::Worn => 12,
             Status::TooLong => 14,
         }
     }

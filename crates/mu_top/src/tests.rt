@@ -93,7 +93,7 @@ fn expect_of(
 }
 
 /// The same of a script.
-fn expect(
+pub(crate) fn expect(
     rt: &impl Abort,
     alloc: Global,
     script: &[u8],
@@ -480,5 +480,82 @@ fn a_fault_ends_a_check(rt: HostRuntime) -> Result<(), Fail> {
     let mut sink = BytesSink::new(alloc, 7, &[])?;
     assert_eq!(rt; status_of(alloc, &["check"], &mut source, &mut sink)?, 4);
     assert_eq!(rt; sink.bytes(), b"8306\n83".as_slice());
+    Ok(())
+}
+
+/// `image version=2` over these octets ends with this status and writes this.
+fn expect_image(
+    rt: &impl Abort,
+    alloc: Global,
+    octets: &[u8],
+    status: u8,
+    written: &[u8],
+) -> Result<(), Fail> {
+    let mut source = BytesSource::new(alloc, octets, &[])?;
+    let mut sink = BytesSink::new(alloc, 65536, &[])?;
+    let found = status_of(alloc, &["image", "version=2"], &mut source, &mut sink)?;
+    assert_eq!(rt; found, status);
+    assert_eq!(rt; sink.bytes(), written);
+    Ok(())
+}
+
+#[test]
+fn an_image_is_told(rt: HostRuntime) -> Result<(), Fail> {
+    let alloc = rt.alloc();
+    expect_image(
+        &rt,
+        alloc,
+        b"abc",
+        0,
+        b"size 3 version 2 digest ba7816bf8f01cfea414140de5dae2223b00361a396177a9cb410ff61f20015ad\nmetadata 0300000002000000ba7816bf8f01cfea414140de5dae2223b00361a396177a9cb410ff61f20015ad\nid ffff02000000ba7816bf8f01cfea414140de5dae2223b00361a396177a9cb410ff61f20015ad\n",
+    )?;
+    expect_image(&rt, alloc, b"", 7, b"refused 0 0 short\n")
+}
+
+#[test]
+fn an_image_has_at_most_1048576_octets(rt: HostRuntime) -> Result<(), Fail> {
+    let alloc = rt.alloc();
+    let mut octets = Vec::new(alloc);
+    for _ in 0..1048577 {
+        octets.push(0)?;
+    }
+    expect_image(
+        &rt,
+        alloc,
+        octets.as_slice(),
+        7,
+        b"refused 0 1048576 long\n",
+    )?;
+    octets.pop();
+    let mut source = BytesSource::new(alloc, octets.as_slice(), &[])?;
+    let mut sink = BytesSink::new(alloc, 65536, &[])?;
+    let status = status_of(alloc, &["image", "version=0"], &mut source, &mut sink)?;
+    assert_eq!(rt; status, 0);
+    Ok(())
+}
+
+#[test]
+fn an_image_needs_its_version(rt: HostRuntime) -> Result<(), Fail> {
+    let alloc = rt.alloc();
+    expect_usage(&rt, alloc, &["image"])?;
+    expect_usage(&rt, alloc, &["image", "version="])?;
+    expect_usage(&rt, alloc, &["image", "version=01"])?;
+    expect_usage(&rt, alloc, &["image", "version=4294967296"])?;
+    expect_usage(&rt, alloc, &["image", "size=1"])?;
+    expect_usage(&rt, alloc, &["image", "version=1", "version=1"])
+}
+
+#[test]
+fn a_fault_ends_an_image(rt: HostRuntime) -> Result<(), Fail> {
+    let alloc = rt.alloc();
+    let mut source = BytesSource::new(alloc, b"abc", &[2])?;
+    let mut sink = BytesSink::new(alloc, 65536, &[])?;
+    let words = ["image", "version=4294967295"];
+    assert_eq!(rt; status_of(alloc, &words, &mut source, &mut sink)?, 3);
+    assert_eq!(rt; sink.bytes(), b"".as_slice());
+    let mut source = BytesSource::new(alloc, b"abc", &[])?;
+    let mut sink = BytesSink::new(alloc, 65536, &[3])?;
+    assert_eq!(rt; status_of(alloc, &words, &mut source, &mut sink)?, 4);
+    assert_eq!(rt; sink.bytes(), b"size 3".as_slice());
     Ok(())
 }

@@ -1,6 +1,5 @@
 // Doing an input line by line.
-ghost use Rattle.std.specs.Prelude.{◌≡◌, ◌≢◌, ◌≤◌, ◌<◌, ◌⊎◌, ℕ, List, length, codes, map, OnOk, IfErr};
-ghost use Rattle.std.specs.List.{concat};
+ghost use Rattle.std.specs.Prelude.{◌≡◌, ◌≢◌, ◌≤◌, ◌<◌, ◌+◌, ◌⊎◌, ℕ, List, length, codes, OnOk, IfErr};
 ghost use Rattle.mu_model_flash.specs.Cause.{Rose};
 ghost use Rattle.mu_model_script.specs.Texts.{refused_text};
 ghost use Rattle.mu_top.specs.Ends.{Ends, Told};
@@ -8,8 +7,7 @@ ghost use Rattle.mu_top.specs.LineDone.{DidLine, StopsLine, EndsAt};
 
 use crate::reader::{LineReader, Next, ReadStop};
 use crate::status::Status;
-use crate::writing::write_pieces;
-use itoa::Buffer;
+use crate::writing::write_refusal;
 use mu_outside::{Sink, Source};
 
 /// Why a line wasn't done.
@@ -17,6 +15,8 @@ use mu_outside::{Sink, Source};
 pub(crate) enum LineStop {
     /// Want of memory.
     Memory,
+    /// The flash of a node is worn out.
+    Worn,
     /// The sink failed.
     Sink,
     /// The line is refused at a place, with a word for why.
@@ -31,17 +31,28 @@ pub(crate) trait LineWork {
     /// A line is refused at a place, with a word for why.
     ghost bars: { Self → List ℕ → ℕ → List ℕ → Type 0 };
 
+    /// A line would wear out a flash.
+    ghost wears: { Self → List ℕ → Type 0 };
+
     /// Memory is taken on the way.
     ghost grows: { Self → Type 0 };
+
+    /// The most lines of an input.
+    ghost most: { ℕ };
+
+    /// It has done so many lines, and may do the next.
+    ghost goes_on: { Self → ℕ → Type 0 };
 
     /// A line that is too long is refused at its limit, whatever it holds.
     ghost too_long: { (state : Self) (line : List ℕ) → 4096 < length line → bars state line 4096 (codes "long") };
 
     /// Does one line and writes what it prints. Nothing is written of a refused line.
     fn do_line<K: Sink>(&mut self, line: &[u8], sink: &mut K) -> Result<(), LineStop>
-        requires { length line.now ≤ 4096 }
+        requires short { length line.now ≤ 4096 }
+        requires goes_on { (count : ℕ) × (count < most) × goes_on self.old count }
+        ensures goes_on { OnOk result ((count : ℕ) → goes_on self.old count → goes_on self.new (count + 1)) }
         ensures did { OnOk result (DidLine does self.old line.now self.new (K.written sink.old) (K.written sink.new)) }
-        ensures stops { IfErr result (StopsLine does bars self.old line.now (K.written sink.old) (K.written sink.new)) }
+        ensures stops { IfErr result (StopsLine does bars wears self.old line.now (K.written sink.old) (K.written sink.new)) }
         ensures grows { IfErr result (λ stop. stop ≡ LineStop.Memory → grows self.old) }
         ensures failed { IfErr result (λ stop. stop ≡ LineStop.Sink → Rose (K.faults sink.old) (K.faults sink.new)) }
         ensures later { K.faults sink.old ≤ K.faults sink.new };
@@ -54,18 +65,7 @@ fn refuse<K: Sink>(sink: &mut K, number: u32, place: u16, word: &[u8]) -> Status
     ensures later { K.faults sink.old ≤ K.faults sink.new }
     ensures is { (result ≡ Status.Refused) ⊎ (result ≡ Status.SinkFault) }
 {
-    let mut number_buffer = Buffer::new();
-    let mut place_buffer = Buffer::new();
-    let pieces = [
-        b"refused ".as_slice(),
-        number_buffer.format(number).as_bytes(),
-        b" ",
-        place_buffer.format(place).as_bytes(),
-        b" ",
-        word,
-        b"\n",
-    ];
-    match write_pieces(sink, &pieces) {
+    match write_refusal(sink, number, u32::from(place), word) {
         Ok(()) => Status::Refused,
         Err(_) => Status::SinkFault,
     }
@@ -82,6 +82,7 @@ fn end_at<K: Sink>(stop: LineStop, sink: &mut K, number: u32) -> Status
 {
     match stop {
         LineStop::Memory => Status::NoMemory,
+        LineStop::Worn => Status::Worn,
         LineStop::Sink => Status::SinkFault,
         LineStop::Refused { place, word } => refuse(sink, number, place, word),
     }
@@ -94,7 +95,9 @@ pub(crate) fn run<W: LineWork, S: Source, K: Sink>(
     source: &mut S,
     sink: &mut K,
 ) -> Status
-    ensures ends { Ends W.does W.bars work.old most_lines (S.left source.old) (S.left source.new) (K.written sink.old) (K.written sink.new) result }
+    requires most { most_lines ≡ W.most }
+    requires begins { W.goes_on work.old 0 }
+    ensures ends { Ends W.does W.bars W.wears work.old most_lines (S.left source.old) (S.left source.new) (K.written sink.old) (K.written sink.new) result }
     ensures source { result ≡ Status.SourceFault → Rose (S.faults source.old) (S.faults source.new) }
     ensures sink { result ≡ Status.SinkFault → Rose (K.faults sink.old) (K.faults sink.new) }
     ensures memory { result ≡ Status.NoMemory → (state : W) × W.grows state }

@@ -1,4 +1,4 @@
-use Rattle.mu_model_completion.proofs.Worked.{one_node, equal_version, first_block}
+use Rattle.mu_model_completion.proofs.Worked.{one_node, equal_version, first_block, three}
 use Rattle.mu_model_completion.proofs.laws.worked_updates.Goals as goal
 
 pub returns-clause-one_node : goal.returns-clause-one_node
@@ -9,3 +9,6 @@ returns-clause-equal_version c = equal_version
 
 pub returns-clause-first_block : goal.returns-clause-first_block
 returns-clause-first_block c = first_block
+
+pub returns-clause-three : goal.returns-clause-three
+returns-clause-three c = three

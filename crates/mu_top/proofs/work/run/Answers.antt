@@ -6,8 +6,9 @@ use Rattle.mu_top.proofs.work.run.Goals as goal
 
 pub lines-init : goal.lines-init
 lines-init g c = record {
-  told = rw c.new-reader.ensures (begins g.W.LineWork.does g.W.LineWork.bars c.args.work.now c.args.most_lines (g.S.Source.left c.args.source.now) (g.K.Sink.written c.args.sink.now));
+  told = rw c.new-reader.ensures (begins g.W.LineWork.does g.W.LineWork.bars g.W.LineWork.wears c.args.work.now c.args.most_lines (g.S.Source.left c.args.source.now) (g.K.Sink.written c.args.sink.now));
   few = omega arith;
+  goes_on = c.requires.begins;
   source = omega arith;
   sink = omega arith;
 }
@@ -15,45 +16,51 @@ lines-init g c = record {
 pub returns-in-Ok-true-clause-ends : goal.returns-in-Ok-true-clause-ends
 returns-in-Ok-true-clause-ends g c =
     let more = rw c.in-Ok-true.field-0-test at c.in-Ok-true.ensures.more in
-    limit_more g.W.LineWork.does g.W.LineWork.bars c.args.work.now c.args.most_lines _ _ _ _ _ c.lines.reader c.has_more.new.self c.lines.work c.lines.count c.if-count-most_lines.true more c.lines.invariant.told c.has_more.ensures.rest
+    limit_more g.W.LineWork.does g.W.LineWork.bars g.W.LineWork.wears c.args.work.now c.args.most_lines _ _ _ _ _ c.lines.reader c.has_more.new.self c.lines.work c.lines.count c.if-count-most_lines.true more c.lines.invariant.told c.has_more.ensures.rest
 
 pub returns-in-Ok-false-clause-ends : goal.returns-in-Ok-false-clause-ends
 returns-in-Ok-false-clause-ends g c =
     let none = rw c.in-Ok-false.field-0-test at c.in-Ok-false.ensures.more in
-    limit_end g.W.LineWork.does g.W.LineWork.bars c.args.work.now c.args.most_lines _ _ _ _ _ c.lines.reader c.has_more.new.self c.lines.work c.lines.count c.lines.invariant.told (told_both _ _ _ _ c.has_more.ensures.rest none)
+    limit_end g.W.LineWork.does g.W.LineWork.bars g.W.LineWork.wears c.args.work.now c.args.most_lines _ _ _ _ _ c.lines.reader c.has_more.new.self c.lines.work c.lines.count c.lines.invariant.told (told_both _ _ _ _ c.has_more.ensures.rest none)
 
 pub returns-in-Err-clause-ends : goal.returns-in-Err-clause-ends
 returns-in-Err-clause-ends g c =
-    source_failed g.W.LineWork.does g.W.LineWork.bars c.args.work.now c.args.most_lines _ _ _ _ _ c.lines.reader c.has_more.new.self c.lines.work c.lines.count c.lines.invariant.told
+    source_failed g.W.LineWork.does g.W.LineWork.bars g.W.LineWork.wears c.args.work.now c.args.most_lines _ _ _ _ _ c.lines.reader c.has_more.new.self c.lines.work c.lines.count c.lines.invariant.told
     (where_told _ _ _ _ (λ before after rest. (c.in-Err.ensures.empty, ([], tt, rest.same))) c.has_more.ensures.rest)
 
 pub returns-in-Err-Source-clause-ends : goal.returns-in-Err-Source-clause-ends
 returns-in-Err-Source-clause-ends g c =
     let next = rw c.in-Err-Source.field-0-is at c.in-Err-Source.ensures.next in
-    source_failed g.W.LineWork.does g.W.LineWork.bars c.args.work.now c.args.most_lines _ _ _ _ _ c.lines.reader c.next.new.self c.lines.work c.lines.count c.lines.invariant.told
+    source_failed g.W.LineWork.does g.W.LineWork.bars g.W.LineWork.wears c.args.work.now c.args.most_lines _ _ _ _ _ c.lines.reader c.next.new.self c.lines.work c.lines.count c.lines.invariant.told
     (where_told _ _ _ _ (λ before after stopped. (stopped.1, (c.next.new.self.line, stopped.0.part, stopped.0.took.taken))) next)
 
 pub returns-in-Err-TooLong-clause-ends : goal.returns-in-Err-TooLong-clause-ends
 returns-in-Err-TooLong-clause-ends g c =
     let next = rw c.in-Err-TooLong.field-0-is at c.in-Err-TooLong.ensures.next in
-    octets_passed g.W.LineWork.does g.W.LineWork.bars c.args.work.now c.args.most_lines _ _ _ _ _ c.lines.reader c.next.new.self c.lines.work c.lines.count c.lines.invariant.told next
+    octets_passed g.W.LineWork.does g.W.LineWork.bars g.W.LineWork.wears c.args.work.now c.args.most_lines _ _ _ _ _ c.lines.reader c.next.new.self c.lines.work c.lines.count c.lines.invariant.told next
 
 pub returns-in-Err-LongLine-clause-ends : goal.returns-in-Err-LongLine-clause-ends
 returns-in-Err-LongLine-clause-ends g c =
     let next = rw c.in-Err-LongLine.field-0-is at c.in-Err-LongLine.ensures.next in
-    long_refused g.W.LineWork.does g.W.LineWork.bars c.args.work.now c.args.most_lines (g.W.LineWork.too_long) _ _ _ _ _ _ c.lines.reader c.next.new.self c.lines.work c.lines.count c.refuse.result (omega (arith, c.lines.invariant.few, c.if-count-most_lines.false)) c.lines.invariant.told next c.refuse.ensures.told
+    long_refused g.W.LineWork.does g.W.LineWork.bars g.W.LineWork.wears c.args.work.now c.args.most_lines (g.W.LineWork.too_long) _ _ _ _ _ _ c.lines.reader c.next.new.self c.lines.work c.lines.count c.refuse.result (omega (arith, c.lines.invariant.few, c.if-count-most_lines.false)) c.lines.invariant.told next c.refuse.ensures.told
 
 pub returns-in-End-clause-ends : goal.returns-in-End-clause-ends
 returns-in-End-clause-ends g c =
     let next = rw c.in-End.is at c.in-Ok.ensures.next in
-    input_ended g.W.LineWork.does g.W.LineWork.bars c.args.work.now c.args.most_lines _ _ _ _ _ c.lines.reader c.next.new.self c.lines.work c.lines.count c.lines.invariant.told next
+    input_ended g.W.LineWork.does g.W.LineWork.bars g.W.LineWork.wears c.args.work.now c.args.most_lines _ _ _ _ _ c.lines.reader c.next.new.self c.lines.work c.lines.count c.lines.invariant.told next
+
+pub do_line-requires : goal.do_line-requires
+do_line-requires g c = record {
+  short = rw c.line.ensures c.in-Ok.ensures.short;
+  goes_on = (c.lines.count, omega (arith, c.lines.invariant.few, c.if-count-most_lines.false, c.requires.most), c.lines.invariant.goes_on);
+}
 
 pub returns-in-Err-do_line : goal.returns-in-Err-do_line
 returns-in-Err-do_line g c =
-    let holding = line_came g.W.LineWork.does g.W.LineWork.bars c.args.work.now c.args.most_lines _ _ _ _ _ c.lines.reader c.next.new.self c.lines.work c.lines.count c.in-Ok.next c.in_default.not-End c.lines.invariant.told c.in-Ok.ensures.next in
-    let stops = subst (λ (line : List ℕ). StopsLine g.W.LineWork.does g.W.LineWork.bars c.lines.work line (g.K.Sink.written c.lines.sink) (g.K.Sink.written c.do_line.new.sink) c.in-Err-do_line.stop) c.line.ensures c.in-Err-do_line.ensures.stops in
+    let holding = line_came g.W.LineWork.does g.W.LineWork.bars g.W.LineWork.wears c.args.work.now c.args.most_lines _ _ _ _ _ c.lines.reader c.next.new.self c.lines.work c.lines.count c.in-Ok.next c.in_default.not-End c.lines.invariant.told c.in-Ok.ensures.next in
+    let stops = subst (λ (line : List ℕ). StopsLine g.W.LineWork.does g.W.LineWork.bars g.W.LineWork.wears c.lines.work line (g.K.Sink.written c.lines.sink) (g.K.Sink.written c.do_line.new.sink) c.in-Err-do_line.stop) c.line.ensures c.in-Err-do_line.ensures.stops in
     record {
-      ends = line_stopped g.W.LineWork.does g.W.LineWork.bars c.args.work.now c.args.most_lines _ _ _ _ _ _ c.lines.reader c.next.new.self c.lines.work c.lines.count c.in-Ok.next c.in-Err-do_line.stop c.end_at.result
+      ends = line_stopped g.W.LineWork.does g.W.LineWork.bars g.W.LineWork.wears c.args.work.now c.args.most_lines _ _ _ _ _ _ c.lines.reader c.next.new.self c.lines.work c.lines.count c.in-Ok.next c.in-Err-do_line.stop c.end_at.result
           (omega (arith, c.lines.invariant.few, c.if-count-most_lines.false)) stops holding c.end_at.ensures.told;
       source = λ e. absurd (c.end_at.ensures.source e);
       sink = λ e. ⊎_elim (λ is. omega (arith, c.lines.invariant.sink, c.in-Err-do_line.ensures.failed is, c.end_at.ensures.later)) (λ rose. omega (arith, c.lines.invariant.sink, c.do_line.ensures.later, rose)) (c.end_at.ensures.sink e);
@@ -63,11 +70,11 @@ returns-in-Err-do_line g c =
 
 pub returns-in-Last : goal.returns-in-Last
 returns-in-Last g c =
-    let holding = line_came g.W.LineWork.does g.W.LineWork.bars c.args.work.now c.args.most_lines _ _ _ _ _ c.lines.reader c.next.new.self c.lines.work c.lines.count c.in-Ok.next c.in_default.not-End c.lines.invariant.told c.in-Ok.ensures.next in
+    let holding = line_came g.W.LineWork.does g.W.LineWork.bars g.W.LineWork.wears c.args.work.now c.args.most_lines _ _ _ _ _ c.lines.reader c.next.new.self c.lines.work c.lines.count c.in-Ok.next c.in_default.not-End c.lines.invariant.told c.in-Ok.ensures.next in
     let last = rw c.in-Last.is at holding in
     let did = subst (λ (line : List ℕ). DidLine g.W.LineWork.does c.lines.work line c.do_line.new.self (g.K.Sink.written c.lines.sink) (g.K.Sink.written c.do_line.new.sink)) c.line.ensures c.in-Ok-do_line.ensures.did in
     record {
-      ends = last_written g.W.LineWork.does g.W.LineWork.bars c.args.work.now c.args.most_lines _ _ _ _ _ c.lines.reader c.next.new.self c.lines.work c.do_line.new.self c.lines.count did.text (omega (arith, c.lines.invariant.few, c.if-count-most_lines.false)) did.does last did.wrote;
+      ends = last_written g.W.LineWork.does g.W.LineWork.bars g.W.LineWork.wears c.args.work.now c.args.most_lines _ _ _ _ _ c.lines.reader c.next.new.self c.lines.work c.do_line.new.self c.lines.count did.text (omega (arith, c.lines.invariant.few, c.if-count-most_lines.false)) did.does last did.wrote;
       source = λ e. absurd (cc e);
       sink = λ e. absurd (cc e);
       memory = λ e. absurd (cc e);
@@ -76,12 +83,13 @@ returns-in-Last g c =
 
 pub lines-preserved : goal.lines-preserved
 lines-preserved g c =
-    let holding = line_came g.W.LineWork.does g.W.LineWork.bars c.args.work.now c.args.most_lines _ _ _ _ _ c.lines.reader c.next.new.self c.lines.work c.lines.count c.in-Ok.next c.in_default.not-End c.lines.invariant.told c.in-Ok.ensures.next in
-    let line = rw (only_line g.W.LineWork.does g.W.LineWork.bars c.args.work.now c.args.most_lines c.in-Ok.next c.in_default.not-End c.in_default-next.not-Last) at holding in
+    let holding = line_came g.W.LineWork.does g.W.LineWork.bars g.W.LineWork.wears c.args.work.now c.args.most_lines _ _ _ _ _ c.lines.reader c.next.new.self c.lines.work c.lines.count c.in-Ok.next c.in_default.not-End c.lines.invariant.told c.in-Ok.ensures.next in
+    let line = rw (only_line g.W.LineWork.does g.W.LineWork.bars g.W.LineWork.wears c.args.work.now c.args.most_lines c.in-Ok.next c.in_default.not-End c.in_default-next.not-Last) at holding in
     let did = subst (λ (line : List ℕ). DidLine g.W.LineWork.does c.lines.work line c.do_line.new.self (g.K.Sink.written c.lines.sink) (g.K.Sink.written c.do_line.new.sink)) c.line.ensures c.in-Ok-do_line.ensures.did in
     record {
-      told = line_written g.W.LineWork.does g.W.LineWork.bars c.args.work.now c.args.most_lines _ _ _ _ _ c.lines.reader c.next.new.self c.lines.work c.do_line.new.self c.lines.count did.text (omega (arith, c.lines.invariant.few, c.if-count-most_lines.false)) did.does line did.wrote;
+      told = line_written g.W.LineWork.does g.W.LineWork.bars g.W.LineWork.wears c.args.work.now c.args.most_lines _ _ _ _ _ c.lines.reader c.next.new.self c.lines.work c.do_line.new.self c.lines.count did.text (omega (arith, c.lines.invariant.few, c.if-count-most_lines.false)) did.does line did.wrote;
       few = omega (arith, c.lines.invariant.few, c.if-count-most_lines.false);
+      goes_on = c.in-Ok-do_line.ensures.goes_on c.lines.count c.lines.invariant.goes_on;
       source = omega (arith, c.lines.invariant.source, c.next.ensures.later);
       sink = omega (arith, c.lines.invariant.sink, c.do_line.ensures.later);
     }

@@ -3,8 +3,8 @@ use Rattle.mu_reference.specs.View.{state_of}
 use Rattle.mu_reference.proofs.Answered.{sound_after, done_so}
 use Rattle.mu_reference.proofs.values.State.on_transfer_start.Goals as goal
 
-pub transfer_answer-reply-requires : goal.transfer_answer-reply-requires
-transfer_answer-reply-requires c =
+pub transfer_answer-reply-requires-clause-sound : goal.transfer_answer-reply-requires-clause-sound
+transfer_answer-reply-requires-clause-sound c =
     sound_after (state_of c.args.self.now) (state_of c.apply.new.self) c.args.from (TransferStart c.args.id c.args.parameters) _ c.states_are_sound.ensures.requests c.requires.range c.requires.sound (c.start_told-told.ensures.told c.args.from) c.in_ok-work.ensures.0
 
 pub returns : goal.returns

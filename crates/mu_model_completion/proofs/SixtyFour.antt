@@ -1,0 +1,101 @@
+-- Three receivers and 64 KiB.
+use Rattle.std.proofs.Common.{◌≡◌, ◌⊎◌, inl, inr, ◌<◌, ◌≤◌, ◌^◌, ℕ, List, [], ◌∷◌, refl, sym, subst, true, false, Some, arith, length}
+use Rattle.mu_model_image.specs.Laws.{MetaIsReadBack, FitIsTested, ImagesFit, ImagesHaveMetadata}
+use Rattle.mu_model_node.specs.Worked.{image_a}
+use Rattle.mu_model_node.specs.NodeState.{restarted, new_node}
+use Rattle.mu_model_client_laws.specs.Laws.{KeepsPlan, FieldsAreRead}
+use Rattle.mu_model_completion.specs.Turn.{settle}
+use Rattle.mu_model_completion.specs.Completion.{IsUpdate, Takes, CanBegin, rows_at, succeeded, plan_64, members_64, push_turns}
+use Rattle.mu_model_completion.proofs.Blocks.{Tiles}
+use Rattle.mu_model_completion.proofs.Theorem.{push_completes}
+
+module _ (laws : KeepsPlan) (fields : FieldsAreRead) (tiles : Tiles) (read : MetaIsReadBack) (tested : FitIsTested) (fit : ImagesFit) (metas : ImagesHaveMetadata) (version : ℕ) (image : List ℕ) (newer : 1 < version) (small : version < 2 ^ 32) (long : length image ≡ 65536) where
+  update : IsUpdate (plan_64 version image) image
+  update = record {
+    log_least = omega arith;
+    log_most = omega arith;
+    chunk_least = omega arith;
+    chunk_most = omega arith;
+    size = sym long;
+    meta = metas version image (omega (arith, long)) (omega (arith, long)) small;
+    fit = fit version image;
+    apply = refl;
+  }
+
+  takes : (a : ℕ) → ((a ≡ 2) ⊎ ((a ≡ 3) ⊎ (a ≡ 4))) → Takes (plan_64 version image) (members_64 version image) a
+  takes a (inl e) = subst (Takes (plan_64 version image) (members_64 version image)) (sym e) (record {
+    config = record { address = 2; group = 0xC000 };
+    moment = 0;
+    state = restarted (new_node 16 image_a);
+    found = refl;
+    handed = omega arith;
+    idle = refl;
+    active = image_a;
+    others = [];
+    images = refl;
+    older = newer;
+    room = omega (arith, long);
+    unicast = omega arith;
+    some_group = inr (omega arith);
+    in_group = inr refl;
+  })
+  takes a (inr (inl e)) = subst (Takes (plan_64 version image) (members_64 version image)) (sym e) (record {
+    config = record { address = 3; group = 0xC000 };
+    moment = 0;
+    state = restarted (new_node 16 image_a);
+    found = refl;
+    handed = omega arith;
+    idle = refl;
+    active = image_a;
+    others = [];
+    images = refl;
+    older = newer;
+    room = omega (arith, long);
+    unicast = omega arith;
+    some_group = inr (omega arith);
+    in_group = inr refl;
+  })
+  takes a (inr (inr e)) = subst (Takes (plan_64 version image) (members_64 version image)) (sym e) (record {
+    config = record { address = 4; group = 0xC000 };
+    moment = 0;
+    state = restarted (new_node 16 image_a);
+    found = refl;
+    handed = omega arith;
+    idle = refl;
+    active = image_a;
+    others = [];
+    images = refl;
+    older = newer;
+    room = omega (arith, long);
+    unicast = omega arith;
+    some_group = inr (omega arith);
+    in_group = inr refl;
+  })
+
+  from : CanBegin (plan_64 version image) image (2 ∷ 3 ∷ 4 ∷ []) (members_64 version image)
+  from = record {
+    update = update;
+    config = record { address = 1; group = 0 };
+    moment = 0;
+    from = refl;
+    updater = refl;
+    distinct = (refl, (refl, (refl, (refl, tt))));
+    quiet = ((λ e. not_it e), ((λ e. tt), ((λ e. tt), ((λ e. tt), tt))));
+    some = omega arith;
+    few = omega arith;
+    none_twice = (((λ e. omega (arith, e)), ((λ e. omega (arith, e)), tt)), (((λ e. omega (arith, e)), tt), (tt, tt)));
+    takes = (takes 2 (inl refl), (takes 3 (inr (inl refl)), (takes 4 (inr (inr refl)), tt)));
+  }
+    where
+      not_it : {A : Type 0} → true ≡ false → A
+      not_it e = absurd (no e)
+        where
+          no : true ≡ false → ⊥
+          no h = grind (arith, h)
+
+  bound : push_turns (plan_64 version image).sending 3 ≤ 71
+  bound = omega arith
+
+  pub three : rows_at 1 (settle 71 (members_64 version image)) ≡ Some (succeeded 2 ∷ succeeded 3 ∷ succeeded 4 ∷ [])
+  unfolding from
+  three = (push_completes laws fields tiles read tested (plan_64 version image) image (2 ∷ 3 ∷ 4 ∷ []) (members_64 version image) from refl 71 bound).rows

@@ -1,0 +1,4 @@
+//! Laws over whole runs of scripts: that every world is safe.
+#![tactic(auto)]
+
+pub mod laws;

@@ -1,0 +1,5 @@
+pub mod EntryLemmas
+pub mod SpellLemmas
+pub mod WriteLemmas
+pub mod FoundLemmas
+pub mod AnewLemmas

@@ -1,0 +1,41 @@
+use Rattle.std.proofs.Common.{◌≡◌, ℕ, List, ◌+◌, ◌*◌, ◌≤◌, IsTrue, length, sym, ◌∙◌, subst, arith}
+use Rattle.mu_model_flash.proofs.Compose.{unchanged_on}
+use Rattle.mu_model_record.specs.Code.{IsCodeWord, content_of}
+use Rattle.mu_model_record.specs.Page.{slot_of}
+use Rattle.mu_record.specs.declared.find.Found.{Found}
+use Rattle.mu_record.specs.Found.{FoundBefore, IsSoundFound}
+use Rattle.mu_record.proofs.FoundLemmas.{still_told, match_none, match_some, slot_none, slot_some, sound_read}
+use Rattle.mu_record.proofs.find.scan_slots.Goals as goal
+use Rattle.mu_record.proofs.find.scan_slots.Goals.{in-Some, in_default}
+
+pub loop-slot-preserved : goal.loop-slot-preserved
+loop-slot-preserved g c =
+    let a = g.F.Flash.seen c.args.flash.now in
+    let s = g.F.Flash.seen c.loop-slot.flash in
+    let page = c.args.page in
+    let k = c.loop-slot.slot in
+    let before = c.loop-slot.invariant in
+    let same = unchanged_on a s (g.F.Flash.seen c.read_slot.new.flash) before.same c.in_ok-octets.ensures.same in
+    let within : IsTrue a.told → 4096 * page + 4096 ≤ length a.octets = λ told. omega (arith, ((g.met.F.Flash.sound c.args.flash.now).is_image told).size, c.requires.within) in
+    elim c.match-branch-2.branch [
+      | in-Some w ↦ record {
+        same = same;
+        found = λ told.
+            subst (λ (f : Found). FoundBefore a.octets page (k + 1) f) (sym (w.found-is ∙ w.with-found.ensures))
+            (slot_some a.octets page k c.requires.control (within told) c.loop-slot-test.true (c.requires.short told).0 (c.requires.short told).1 c.loop-slot.found (before.found told)
+            w.in-Some.octets w.widened.result w.record_from.result
+            (subst (λ (o : List ℕ). IsCodeWord (slot_of o page k) × (w.in-Some.octets ≡ content_of (slot_of o page k))) (before.same.octets told)
+            (match_some _ _ c.in_ok-octets.field-0 w.in-Some.octets (c.in_ok-octets.ensures.content (still_told a s before.same told)) w.in-Some.is))
+            w.widened.ensures w.record_from.ensures);
+        sound = subst (λ (f : Found). IsSoundFound f) (sym (w.found-is ∙ w.with-found.ensures)) (sound_read c.loop-slot.found page 2 w.widened.result w.record_from.result c.requires.control w.record_from.ensures before.sound);
+      }
+      | in_default w ↦ record {
+        same = same;
+        found = λ told.
+            subst (λ (f : Found). FoundBefore a.octets page (k + 1) f) (sym w.found-is)
+            (slot_none a.octets page k c.requires.control (within told) c.loop-slot-test.true (c.requires.short told).0 (c.requires.short told).1 c.loop-slot.found (before.found told)
+            (subst (λ (o : List ℕ). ¬ IsCodeWord (slot_of o page k)) (before.same.octets told)
+            (match_none _ _ c.in_ok-octets.field-0 (c.in_ok-octets.ensures.content (still_told a s before.same told)) w.in_default.is)));
+        sound = subst (λ (f : Found). IsSoundFound f) (sym w.found-is) before.sound;
+      }
+    ]

@@ -1,0 +1,119 @@
+// What a packet asks of a node.
+ghost use Rattle.std.specs.Prelude.{◌≡◌, IfSome};
+ghost use Rattle.mu_access.specs.View.{view};
+ghost use Rattle.mu_blobmsg.specs.View.{view as blob_view};
+ghost use Rattle.mu_updmsg.specs.View.{view as update_view};
+ghost use Rattle.mu_model_node.specs.BlobMessages.{blob_request_of as blob_request_in};
+ghost use Rattle.mu_model_node.specs.UpdateMessages.{update_request_of as update_request_in};
+ghost use Rattle.mu_model_node.specs.NodeMessages.{request_of as request_in_message, request_at};
+ghost use Rattle.mu_model_node.specs.Sound.{RequestFits};
+ghost use Rattle.mu_reference.specs.View.{there};
+ghost use Rattle.mu_reference.specs.Messages.{blob_request_of, update_request_of, request_of};
+
+use mu_access::{Message, read};
+use mu_blobmsg::BlobMsg;
+use mu_model_node::Parameters;
+use mu_model_node::laws::octets_ask_in_range;
+use mu_reference::{BlobRequest, Request, UpdateRequest, UpdateStart};
+use mu_updmsg::UpdMsg;
+
+fn blob_request<'a>(message: BlobMsg<'a>) -> Option<BlobRequest<'a>>
+    ensures { there blob_request_of result ≡ blob_request_in (blob_view message.entry) }
+{
+    match message {
+        BlobMsg::BlobInformationGet => Some(BlobRequest::BlobInformationGet),
+        BlobMsg::TransferGet => Some(BlobRequest::TransferGet),
+        BlobMsg::TransferStart {
+            mode,
+            id,
+            size,
+            log,
+            mtu,
+        } => Some(BlobRequest::TransferStart {
+            id,
+            parameters: Parameters {
+                mode,
+                size,
+                log,
+                mtu,
+            },
+        }),
+        BlobMsg::TransferCancel { id } => Some(BlobRequest::TransferCancel { id }),
+        BlobMsg::BlockStart { block, chunk_size } => Some(BlobRequest::BlockStart {
+            block,
+            chunk_size,
+        }),
+        BlobMsg::BlockGet => Some(BlobRequest::BlockGet),
+        BlobMsg::ChunkTransfer { chunk, octets } => Some(BlobRequest::ChunkTransfer {
+            chunk,
+            octets,
+        }),
+        _ => None,
+    }
+}
+
+fn update_request<'a>(message: UpdMsg<'a>) -> Option<UpdateRequest<'a>>
+    ensures { there update_request_of result ≡ update_request_in (update_view message.entry) }
+{
+    match message {
+        UpdMsg::InformationGet { first, limit } => Some(UpdateRequest::InformationGet {
+            first,
+            limit,
+        }),
+        UpdMsg::MetadataCheck { index, metadata } => Some(UpdateRequest::MetadataCheck {
+            index,
+            metadata,
+        }),
+        UpdMsg::UpdateGet => Some(UpdateRequest::UpdateGet),
+        UpdMsg::UpdateStart {
+            ttl,
+            base,
+            id,
+            index,
+            metadata,
+        } => Some(UpdateRequest::StartUpdate(UpdateStart {
+            ttl,
+            base,
+            id,
+            index,
+            metadata,
+        })),
+        UpdMsg::UpdateCancel => Some(UpdateRequest::UpdateCancel),
+        UpdMsg::UpdateApply => Some(UpdateRequest::UpdateApply),
+        _ => None,
+    }
+}
+
+fn request_in_message<'a>(message: Message<'a>) -> Option<Request<'a>>
+    ensures { there request_of result ≡ request_in_message (view message.entry) }
+{
+    match message {
+        Message::Blob(message) => match blob_request(message) {
+            Some(request) => Some(Request::Blob(request)),
+            None => None,
+        },
+        Message::Upd(message) => match update_request(message) {
+            Some(request) => Some(Request::Update(request)),
+            None => None,
+        },
+        Message::Dist(_) => None,
+    }
+}
+
+fn request_read<'a>(payload: &'a [u8]) -> Option<Request<'a>>
+    ensures { there request_of result ≡ request_at payload.now }
+{
+    match read(payload) {
+        Ok(message) => request_in_message(message),
+        Err(_) => None,
+    }
+}
+
+/// What the octets of a payload ask of a node, if it takes such a message.
+pub(crate) fn request_at<'a>(payload: &'a [u8]) -> Option<Request<'a>>
+    ensures asks { there request_of result ≡ request_at payload.now }
+    ensures fits { IfSome result (λ request. RequestFits (request_of request)) }
+{
+    octets_ask_in_range();
+    request_read(payload)
+}

@@ -1,0 +1,7 @@
+pub mod Base
+pub mod View
+pub mod Marks
+pub mod Damage
+pub mod Judged
+pub mod Booted
+pub mod FillingView

@@ -1,0 +1,57 @@
+// The marks of the bank that is being filled.
+ghost use Rattle.std.specs.Prelude.{◌≡◌, ℕ, ◌+◌, ◌*◌, ◌<◌, ◌≤◌, IsTrue, IfOk, MatchOption, Result, length, false, slice_index_or};
+ghost use Rattle.mu_model_record.specs.declared.BankState.TheVariants.{Filling};
+ghost use Rattle.mu_model_record.specs.Record.{IsRecord, IsFilling, entry_of};
+ghost use Rattle.mu_record.specs.Reads.{ReadsOnly};
+ghost use Rattle.mu_store.specs.Marks.{no_flags, AreHeld, HasOtherMark};
+
+use mu_cells::{Mark, read_mark};
+use mu_outside::{Failed, Flash};
+use mu_record::{BankState, Record};
+
+const PAGE: u32 = 4096;
+
+// The bank that is Filling, with its size and log.
+pub(crate) fn filling_of(fields: &Record) -> Option<(u8, u32, u8)>
+    requires { IsRecord fields.now }
+    ensures { MatchOption result ((b : ℕ) → ¬ IsFilling (entry_of fields.now b)) (λ found. (found.0 < fields.now.number) × (entry_of fields.now found.0 ≡ Filling found.1 found.2)) }
+{
+    for b in 0..4u8 {
+        if let BankState::Filling { size, log } = fields.banks[b as usize] {
+            return Some((b, size, log));
+        }
+    }
+    None
+}
+
+// No block is held.
+pub(crate) fn no_flags() -> [bool; 256]
+    ensures { result ≡ no_flags }
+{
+    [false; 256]
+}
+
+// Which blocks of a bank are held, by so many marks; none where a mark is neither FF nor FE.
+pub(crate) fn read_marks<F: Flash>(
+    flash: &mut F,
+    bank: u8,
+    count: u16,
+) -> Result<Option<[bool; 256]>, Failed>
+    requires few { count ≤ 256 }
+    requires there { bank < 4 }
+    requires within { 2 + bank < (F.seen flash.old).pages }
+    ensures marks { IsTrue (F.seen flash.old).told → IfOk result (λ found. MatchOption found (HasOtherMark bank count (F.seen flash.old).octets) (λ held. AreHeld bank count held (F.seen flash.old).octets)) }
+    ensures past { IfOk result (λ found. MatchOption found (Unit {0}) (λ held. (i : ℕ) → count ≤ i → slice_index_or held i false ≡ false)) }
+    ensures reads { ReadsOnly (F.seen flash.old) (F.seen flash.new) result }
+{
+    let mut held = no_flags();
+    let first = PAGE * (2 + bank as u32);
+    for i in 0..count {
+        match read_mark(flash, first + i as u32)? {
+            Mark::Unset => {}
+            Mark::Set => held[i as usize] = true,
+            Mark::Other => return Ok(None),
+        }
+    }
+    Ok(Some(held))
+}

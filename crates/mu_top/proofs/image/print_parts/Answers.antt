@@ -1,0 +1,15 @@
+use Rattle.std.proofs.Common.{subst}
+use Rattle.std.specs.Result.{OnOk, OnErr}
+use Rattle.mu_top.specs.Reading.{Wrote, WroteSome}
+use Rattle.mu_top.proofs.ImageTexts.{parts_are}
+use Rattle.mu_top.proofs.image.print_parts.Goals as goal
+
+pub returns-clause-ok : goal.returns-clause-ok
+returns-clause-ok g c =
+    subst (λ t. OnOk c.write_pieces.result (Wrote (g.K.Sink.written c.args.sink.now) (g.K.Sink.written c.write_pieces.new.sink) t)) (parts_are c.args.size.now c.args.version.now c.args.digest.now c.args.metadata.now c.args.id.now)
+    (rw c.as_slice.ensures at c.write_pieces.ensures.ok)
+
+pub returns-clause-err : goal.returns-clause-err
+returns-clause-err g c =
+    subst (λ t. OnErr c.write_pieces.result (WroteSome (g.K.Sink.written c.args.sink.now) (g.K.Sink.written c.write_pieces.new.sink) t)) (parts_are c.args.size.now c.args.version.now c.args.digest.now c.args.metadata.now c.args.id.now)
+    (rw c.as_slice.ensures at c.write_pieces.ensures.err)

@@ -1,0 +1,4 @@
+pub mod ActiveTexts
+pub mod Events
+pub mod Free
+pub mod Counted

@@ -1,0 +1,4 @@
+pub mod View
+pub mod Member
+pub mod Outcome
+pub mod Moved

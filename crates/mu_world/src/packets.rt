@@ -1,0 +1,52 @@
+// Packets of the bag.
+ghost use Rattle.std.specs.Prelude.{◌≡◌, ◌/◌, ◌^◌, slice_get};
+ghost use Rattle.std.specs.Option.{option_copied};
+ghost use Rattle.mu_codec.specs.View.{packet_of};
+ghost use Rattle.mu_model_node.specs.NodeMessages.{request_at};
+ghost use Rattle.mu_model_node.specs.NodeState.{is_addressee};
+ghost use Rattle.mu_model_world.specs.Judged.{offered, owner_of};
+
+use mu_access::{Message, read};
+use mu_codec::{Packet, Payload, put_octets};
+use mu_model_node::NodeConfig;
+use mu_updmsg::UpdMsg;
+
+/// The packet of that number, if there is one.
+pub(crate) fn packet_at(bag: &[Packet], number: u32) -> Option<&Packet>
+    ensures { option_copied result ≡ slice_get bag.now number }
+{
+    bag.get(number as usize)
+}
+
+/// Whether a packet is addressed to a node, by its address or its group.
+pub(crate) fn is_addressee(config: &NodeConfig, packet: &Packet) -> bool
+    ensures { result ≡ is_addressee config.now (packet_of packet.now) }
+{
+    packet.to == config.address || (config.group != 0 && packet.to == config.group)
+}
+
+/// The same octets once more.
+pub(crate) fn copy_of(payload: &Payload) -> Payload
+    ensures { result.items ≡ payload.now.items }
+{
+    let mut octets = Payload::new();
+    put_octets(&mut octets, payload.as_slice());
+    octets
+}
+
+/// The BLOB ID of an update that a payload offers.
+pub(crate) fn offered(payload: &[u8]) -> Option<u64>
+    ensures { result ≡ offered (request_at payload.now) }
+{
+    match read(payload) {
+        Ok(Message::Upd(UpdMsg::UpdateStart { id, .. })) => Some(id),
+        _ => None,
+    }
+}
+
+/// The address of the member that a BLOB ID belongs to, if there is one: its top 16 bits.
+pub(crate) fn owner_of(id: u64) -> u16
+    ensures { result ≡ owner_of id }
+{
+    (id >> 48) as u16
+}
