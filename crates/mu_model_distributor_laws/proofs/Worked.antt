@@ -39,7 +39,7 @@ nothing_is_lost_is = record { applied = refl; progress = refl; image = refl; lis
 
 pub verification_ends_is : VerificationEnds
 unfolding word_at octets_at opcode_at pattern_at
-verification_ends_is = record { asks = refl; row_stands = refl; verify_only = refl; then_applies = refl; verify_and_apply = refl; applies = refl; only_success = refl; success_applying = refl; success_completed = refl; other_version = refl; other_distribution = refl; failed_afterwards = refl; seen_failed = refl }
+verification_ends_is = record { asks = refl; row_stands = refl; verify_only = refl; then_applies = refl; verify_and_apply = refl; applies = refl; only_success = refl; success_applying = refl; success_completed = refl; other_version = refl; other_distribution = refl; untold = refl; failed_afterwards = refl; seen_failed = refl }
 
 pub confirmations_is : Confirmations
 unfolding word_at octets_at opcode_at pattern_at

@@ -43,6 +43,8 @@ pub record VerificationEnds : Type 0 where
   -- an Information Status of another version, or of another distribution's Update Status, says nothing of this one
   pub other_version : rows_seen (after stocked_one (up_to_verify 5 ++ told (information_status 4) ∷ [])) ≡ (2 ∷ 0 ∷ 4 ∷ 0 ∷ 0 ∷ []) ∷ []
   pub other_distribution : rows_seen (after stocked_one (up_to_verify 5 ++ told (update_status 6 2) ∷ [])) ≡ (2 ∷ 0 ∷ 4 ∷ 0 ∷ 0 ∷ []) ∷ []
+  -- nor does one of this version before the receiver has told a phase of this distribution
+  pub untold : rows_seen (after stocked_one (said (receivers_add 0) ∷ said (distribution_start_of 5 5 0 0xc0) ∷ time_passes 0 ∷ told (information_status 2) ∷ [])) ≡ (2 ∷ 0 ∷ 10 ∷ 0 ∷ 0 ∷ []) ∷ []
   -- answered 4, and Verification Failed afterwards: no row is verified, so the distribution fails and asks nobody to apply
   pub failed_afterwards : sends_at 5 stocked_one (up_to_verify 5 ++ told (update_status 4 1) ∷ told (update_status 5 1) ∷ []) ≡ []
   pub seen_failed : seen (after stocked_one (up_to_verify 5 ++ told (update_status 4 1) ∷ told (update_status 5 1) ∷ time_passes 5 ∷ [])) ≡ 7 ∷ 5 ∷ 0 ∷ 0 ∷ 1 ∷ 1 ∷ 2 ∷ []
