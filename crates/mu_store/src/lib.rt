@@ -12,6 +12,8 @@ mod judge;
 mod marks;
 mod pages;
 mod store;
+#[cfg(test)]
+mod tests;
 
 pub use booting::{BootFail, BootWhy, Booted, boot};
 pub use faults::{Stopped, StoreFault};
