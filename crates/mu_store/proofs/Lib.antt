@@ -6,3 +6,6 @@ pub mod FreeBase
 pub mod FillLemmas
 pub mod PutLemmas
 pub mod BlockPut
+pub mod HashLemmas
+pub mod SealLemmas
+pub mod SealRuns

@@ -5,3 +5,4 @@ pub mod Damage
 pub mod Judged
 pub mod Booted
 pub mod FillingView
+pub mod Sealed

@@ -11,6 +11,7 @@ mod formatting;
 mod judge;
 mod marks;
 mod pages;
+mod sealing;
 mod store;
 #[cfg(test)]
 mod tests;
@@ -20,4 +21,5 @@ pub use faults::{Stopped, StoreFault};
 pub use filling::Filling;
 pub use formatting::format;
 pub use mu_record::{BankState, Tag};
+pub use sealing::Sealing;
 pub use store::Store;

@@ -1,5 +1,6 @@
 // Every operation of every call cut, and the flash booted again.
-use crate::{BankState, Booted, Filling, Stopped, Store, boot, format};
+use crate::{BankState, Booted, Filling, Sealing, Stopped, Store, boot, format};
+use mu_image::Meta;
 use mu_outside::{CutFlash, Pattern, Plug};
 use std::alloc::Global;
 use std::process::Abort;
@@ -241,4 +242,69 @@ fn each_cut_of_a_filling_leaves_the_old_or_the_new(rt: HostRuntime) -> Result<()
         begun,
         view(3, false, false),
     )
+}
+
+// SHA-256 of 4,096 octets 5.
+const DIGEST: [u8; 32] = [
+    0xFB, 0x73, 0x63, 0xF1, 0xF0, 0x2C, 0x2F, 0x24, 0x4C, 0x32, 0xAA, 0x80, 0x76, 0xEF, 0x7E, 0xDB,
+    0xC2, 0xE6, 0x21, 0x13, 0x75, 0x42, 0x83, 0x6A, 0xDC, 0x1E, 0x31, 0x21, 0x43, 0x96, 0x8D, 0x75,
+];
+
+// Whether a boot shows that bank 0 is Sealed.
+fn is_sealed(rt: &impl Abort, flash: CutFlash) -> bool {
+    match boot(flash) {
+        Ok(Booted::Rest(store)) => {
+            assert!(rt; store.banks() > 0);
+            matches!(store.bank_state(0), BankState::Sealed(_))
+        }
+        _ => false,
+    }
+}
+
+// Seals bank 0, whose one block is held; none where that failed.
+fn seal_first(rt: &impl Abort, filling: Filling<CutFlash>, digest: [u8; 32]) -> Option<bool> {
+    assert_eq!(rt; filling.size(), 4096);
+    assert_eq!(rt; filling.log(), 12);
+    assert!(rt; filling.held(0));
+    let meta = Meta {
+        size: 4096,
+        version: 1,
+        digest,
+    };
+    match filling.seal(&meta, &[8; 1792], &[9; 1792]) {
+        Ok(Sealing::Fit(store)) => {
+            assert!(rt; is_sealed(rt, store.into_flash()));
+            Some(true)
+        }
+        Ok(Sealing::Unfit(store)) => {
+            assert!(rt; !is_sealed(rt, store.into_flash()));
+            Some(false)
+        }
+        Err(_) => None,
+    }
+}
+
+fn filled_and_sealed(
+    rt: &impl Abort,
+    alloc: Global,
+    digest: [u8; 32],
+) -> Result<Option<bool>, Fail> {
+    let mut flash = match format(CutFlash::new(alloc, 6)?, 2, 1, &[1; 1792]) {
+        Ok(store) => store.into_flash(),
+        Err(stopped) => stopped.flash,
+    };
+    for call in [Call::Begin, Call::Put] {
+        flash = play(rt, flash, call).flash;
+    }
+    match boot(flash) {
+        Ok(Booted::Fill(filling)) => Ok(seal_first(rt, filling, digest)),
+        _ => Ok(None),
+    }
+}
+
+#[test]
+fn a_bank_is_sealed_where_its_octets_fit(rt: HostRuntime) -> Result<(), Fail> {
+    assert_eq!(rt; filled_and_sealed(&rt, rt.alloc(), DIGEST)?, Some(true));
+    assert_eq!(rt; filled_and_sealed(&rt, rt.alloc(), [0; 32])?, Some(false));
+    Ok(())
 }

@@ -1,0 +1,52 @@
+-- A bank that is read: no operation begins, and the state stays.
+use Rattle.std.proofs.Common.{◌≡◌, ℕ, true, IsTrue, List, [], sym, ◌∙◌, subst, arith}
+use Rattle.mu_model_flash.specs.Cause.{Rose}
+use Rattle.mu_model_flash.specs.Flash.{Seen, IsSound, Unchanged}
+use Rattle.mu_model_flash.specs.Run.{either, Ran, Broke}
+use Rattle.mu_model_flash.proofs.Compose.{nothing, unchanged_keeps}
+use Rattle.mu_model_record.specs.Store.{StoreState}
+use Rattle.mu_model_record.specs.Represents.{RepresentsAt, RepresentsStore, IsFollowedBy}
+use Rattle.mu_record.specs.Place.{IsPlace, HoldsAt}
+
+module _ (a b : Seen) (sound : IsSound a) (same : Unchanged a b) (page fresh : ℕ) (d : StoreState) (holds : HoldsAt a page fresh d) where
+  here : RepresentsStore d a.octets
+  here = (page, holds.word, holds.represents)
+
+  pub read_ran : Ran (either RepresentsStore) d [] a b
+  read_ran = nothing (either RepresentsStore) d a b sound same holds.on (λ told. here)
+
+  pub read_holds : HoldsAt b page fresh d
+  read_holds = record {
+    told = same.told ∙ holds.told;
+    on = same.off ∙ holds.on;
+    word = holds.word;
+    represents = subst (λ (o : List ℕ). RepresentsAt page holds.word d o) (sym (same.octets holds.told)) holds.represents;
+    is_before = holds.is_before;
+  }
+
+  pub read_broke : (steps : List StoreState) → Rose a.faults b.faults → (IsTrue a.only_armed → b.off ≡ true) → Broke (either RepresentsStore) d steps a b
+  read_broke steps rose cause =
+      let ran = read_ran in
+      record {
+        keeps = unchanged_keeps a b same;
+        rose = rose;
+        cause = cause;
+        begun = 0;
+        at_most = omega arith;
+        clock = ran.clock;
+        ends = ran.ends;
+        leaves = ran.leaves;
+        still = λ none. same;
+        stays_on = λ on. (ran.armed, ran.unreached);
+        went_off = λ was off. absurd (cc (off, same.off, holds.on));
+        stays_off = λ off. absurd (cc (off, holds.on));
+      }
+
+-- the place of the present record
+pub read_place : (a b : Seen) → Unchanged a b → (page fresh : ℕ) → IsPlace a page fresh → IsPlace b page fresh
+read_place a b same page fresh is = record {
+  both = omega (arith, is.both, same.pages);
+  one_of_two = is.one_of_two;
+  few = is.few;
+  is_blank = λ told. let was = sym same.told ∙ told in subst (λ (o : List ℕ). IsFollowedBy page fresh o) (sym (same.octets was)) (is.is_blank was);
+}
