@@ -5,8 +5,8 @@ use Rattle.mu_model_flash.specs.Flash.{Seen, IsSound, Unchanged}
 use Rattle.mu_model_flash.specs.Run.{either, Ran, Broke}
 use Rattle.mu_model_flash.proofs.Compose.{nothing, unchanged_keeps}
 use Rattle.mu_model_record.specs.Store.{StoreState}
-use Rattle.mu_model_record.specs.Represents.{RepresentsAt, RepresentsStore, IsFollowedBy}
-use Rattle.mu_record.specs.Place.{IsPlace, HoldsAt}
+use Rattle.mu_model_record.specs.Represents.{RepresentsAt, RepresentsStore}
+use Rattle.mu_record.specs.Place.{HoldsAt}
 
 module _ (a b : Seen) (sound : IsSound a) (same : Unchanged a b) (page fresh : ℕ) (d : StoreState) (holds : HoldsAt a page fresh d) where
   here : RepresentsStore d a.octets
@@ -41,12 +41,3 @@ module _ (a b : Seen) (sound : IsSound a) (same : Unchanged a b) (page fresh : �
         went_off = λ was off. absurd (cc (off, same.off, holds.on));
         stays_off = λ off. absurd (cc (off, holds.on));
       }
-
--- the place of the present record
-pub read_place : (a b : Seen) → Unchanged a b → (page fresh : ℕ) → IsPlace a page fresh → IsPlace b page fresh
-read_place a b same page fresh is = record {
-  both = omega (arith, is.both, same.pages);
-  one_of_two = is.one_of_two;
-  few = is.few;
-  is_blank = λ told. let was = sym same.told ∙ told in subst (λ (o : List ℕ). IsFollowedBy page fresh o) (sym (same.octets was)) (is.is_blank was);
-}

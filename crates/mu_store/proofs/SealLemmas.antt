@@ -65,9 +65,6 @@ module _ (a : Seen) (page fresh : ℕ) (d : StoreState) (holds : HoldsAt a page 
           fit,
         ))
 
-    pub sealed_is : (entries : List BankState) → entries ≡ set fields.banks bank (Sealed meta) → (sealed_up d bank meta (joined blocks) tag).present ≡ next_record fields entries tag
-    sealed_is entries e = ap (λ (r : Record). next_record r (set r.banks bank (Sealed meta)) tag) is ∙ ap (λ (l : List BankState). next_record fields l tag) (sym e)
-
 module _ (r : Record) (sound : IsRecord r) (bank size log : ℕ) (there : bank < r.number) (entry : entry_of r bank ≡ Filling size log) (meta : Meta) where
   four : bank < length r.banks
   four = omega (arith, there, sound.number_most, sound.four)
