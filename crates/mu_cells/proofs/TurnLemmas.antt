@@ -1,167 +1,24 @@
 -- The operations of a call, read as turns of a page, a slot or a mark.
-use Rattle.std.proofs.Common.{◌≡◌, ◌⊎◌, inl, inr, ⊎_elim, IsTrue, Result, ℕ, ◌+◌, ◌*◌, ◌<◌, ◌≤◌, List, [], ◌∷◌, length, get_or, slice_range, refl, sym, ◌∙◌, ap, subst, arith}
-use Rattle.std.proofs.lemmas.List.{ext_get_or}
-use Rattle.mu_model_flash.specs.Bits.{AreOctets, blank, written, part_of, SameOutside, Between}
+use Rattle.std.proofs.Common.{◌≡◌, Bool, IsTrue, Result, Ok, Err, IsErr, ℕ, ◌+◌, ◌*◌, ◌<◌, ◌≤◌, List, [], ◌∷◌, length, get_or, slice_range, refl, sym, ◌∙◌, ap, subst, arith}
+use Rattle.mu_model_flash.specs.Bits.{AreOctets, blank, written, part_of, Between}
 use Rattle.mu_model_flash.specs.Flash.{Seen, IsSound}
-use Rattle.mu_model_flash.specs.Run.{exact, either, Refines, Ran, Runs}
-use Rattle.mu_model_flash.proofs.BitLemmas.{length-blank, get-blank, length-written, written-inside, written-written}
-use Rattle.mu_model_flash.proofs.RangeLemmas.{length-part, get-part, range-part, outside_same, outside-written, part-written, outside-between, part-between, same-whole, torn-outside, torn-part, one_blank, mark_torn}
-use Rattle.mu_model_flash.proofs.Readings.{runs_as, one_operation, refines_same}
-use Rattle.mu_model_flash.proofs.Compose.{told_back}
-use Rattle.mu_model_record.specs.Code.{coded, content_of, IsCodeWord, HasPairOfOnes}
-use Rattle.mu_model_record.specs.Page.{page_of, slot_of, slot_place, format_of, page_word, slot_word, IsWord, IsSafePage, PageFades, CanWriteSlot}
-use Rattle.mu_model_record.specs.Turns.{Turn, before, after, PageErases, PageTurns, SlotTurns, MarkTurns, StaysOutside, NoNewWord, NoOtherWord}
-use Rattle.mu_model_record.proofs.CodeLemmas.{length-coded, coded_is}
-use Rattle.mu_model_record.proofs.PageLemmas.{torn_code, torn_erase, torn_program, erased_fades, fades_same, ff_pair, no_new_word, written_word}
-use Rattle.mu_model_record.proofs.SlotLemmas.{slot_words as one_slot_words}
-use Rattle.mu_model_record.proofs.PlaceLemmas.{page_turned, slot_turned}
+use Rattle.mu_model_flash.specs.Run.{exact, either, Refines, Keeps, Ran, Broke, Runs}
+use Rattle.mu_model_flash.specs.Laws.{PartLaws, WriteLaws, RunsJoin, RunsAreRead}
+use Rattle.mu_model_record.specs.Code.{coded, content_of, IsCodeWord}
+use Rattle.mu_model_record.specs.Page.{page_of, slot_of, slot_place, format_of, page_word, slot_word, IsSafePage, CanWriteSlot}
+use Rattle.mu_model_record.specs.Turns.{before, after, PageErases, PageTurns, SlotTurns, MarkTurns, StaysOutside, NoNewWord, NoOtherWord}
+use Rattle.mu_model_record.specs.Laws.{CodedHasItsLength}
+use Rattle.mu_model_record.specs.TurnLaws.{EraseLaws, WholePageLaws, SlotLaws, MarkLaw}
+use Rattle.mu_model_record.specs.Ways.{Way, as_octets, outside, page_erase, page_write, slot_write, mark_write, no_new_word, no_other_word, StateOf, reading_of}
 
--- pages
-module _ (old : List ℕ) (page : ℕ) (within : 4096 * page + 4096 ≤ length old) where
-  ff : length (blank 4096) ≡ 4096
-  ff = length-blank 4096
+told_back : (a b : Seen) → Keeps a b → IsTrue b.told → IsTrue a.told
+told_back a b keeps told = subst (λ (x : Bool). IsTrue x) keeps.told told
 
-  own : length (page_of old page) ≡ 4096
-  own = length-part old (4096 * page) 4096 within
+-- what a `?` hands on
+pub broke_runs : {T X : Type 0} (way : Way) (s : StateOf way) (xs : List (StateOf way)) (a b : Seen) (result : Result T X) → IsErr result → Broke (reading_of way) s xs a b → Runs (reading_of way) s xs a b result
+broke_runs way s xs a b (Ok v) err broke = absurd (cc err)
+broke_runs way s xs a b (Err e) err broke = broke
 
-  still : (c : List ℕ) → c ≡ old → SameOutside (4096 * page) 4096 old c × PageFades (page_of old page) (page_of c page)
-  still c is =
-      subst (λ (x : List ℕ). SameOutside (4096 * page) 4096 old x × PageFades (page_of old page) (page_of x page)) (sym is) (outside_same (4096 * page) 4096 old, fades_same (page_of old page))
-
-  pub erased_page : page_of (written old (4096 * page) (blank 4096)) page ≡ blank 4096
-  erased_page = part-written old (4096 * page) 4096 within (blank 4096) ff
-
-  erased_outside : (c : List ℕ) → c ≡ written old (4096 * page) (blank 4096) → SameOutside (4096 * page) 4096 old c
-  erased_outside c is = subst (λ (x : List ℕ). SameOutside (4096 * page) 4096 old x) (sym is) (outside-written old (4096 * page) 4096 within (blank 4096) ff)
-
-  pub erase_outside : Refines exact (either (StaysOutside (4096 * page) 4096 old)) old (written old (4096 * page) (blank 4096) ∷ []) tt (tt ∷ [])
-  erase_outside = (λ c is. (still c is).0, λ c torn. inl (torn-outside old (4096 * page) 4096 within (blank 4096) ff c torn), λ c is. erased_outside c is)
-
-  pub write_outside : (word : List ℕ) → length word ≡ 4096
-      → Refines exact (either (StaysOutside (4096 * page) 4096 old)) old (written old (4096 * page) (blank 4096) ∷ written old (4096 * page) word ∷ []) tt (tt ∷ tt ∷ [])
-  write_outside word size = (
-    λ c is. (still c is).0,
-    λ c torn. inl (torn-outside old (4096 * page) 4096 within (blank 4096) ff c torn),
-    (
-      λ c is. erased_outside c is,
-      λ c torn. inl (outside-between old (4096 * page) 4096 within (blank 4096) word ff size c torn),
-      λ c is. subst (λ (x : List ℕ). SameOutside (4096 * page) 4096 old x) (sym is) (outside-written old (4096 * page) 4096 within word size),
-    ),
-  )
-
-  -- a slot of an erased page
-  pub erased_slot : (k : ℕ) → k < 4 → slot_of (written old (4096 * page) (blank 4096)) page k ≡ blank 1024
-  erased_slot k lt =
-      let E : List ℕ = written old (4096 * page) (blank 4096) in
-      let size : length E ≡ length old = length-written old (4096 * page) (blank 4096) (omega (arith, ff, within)) in
-      let here : length (slot_of E page k) ≡ 1024 = length-part E (slot_place page k) 1024 (omega (arith, size, within, lt)) in
-      ext_get_or 0 (slot_of E page k) (blank 1024) (here ∙ sym (length-blank 1024)) (λ i i_lt.
-      let low : i < 1024 = omega (arith, i_lt, here) in
-      let at : slot_place page k + i ≡ 4096 * page + (1024 * k + i) = omega arith in
-      get-part E (slot_place page k) 1024 i low
-      ∙ ap (λ (n : ℕ). get_or E n 0) at
-      ∙ written-inside old (4096 * page) (blank 4096) (omega (arith, ff, within)) (1024 * k + i) (omega (arith, ff, low, lt))
-      ∙ get-blank 4096 (1024 * k + i) (omega (arith, low, lt))
-      ∙ sym (get-blank 1024 i low))
-
-  module _ (safe : IsSafePage (page_of old page)) where
-    fades : (c : List ℕ) → Between old (written old (4096 * page) (blank 4096)) c → SameOutside (4096 * page) 4096 old c × PageFades (page_of old page) (page_of c page)
-    fades c torn = (torn-outside old (4096 * page) 4096 within (blank 4096) ff c torn, torn_erase (page_of old page) (page_of c page) own safe (torn-part old (4096 * page) 4096 within (blank 4096) ff c torn))
-
-    pub erases : Refines exact (either (PageErases old page)) old (written old (4096 * page) (blank 4096) ∷ []) before (after ∷ [])
-    erases = (λ c is. still c is, λ c torn. inl (fades c torn), λ c is. is)
-
-    module _ (octets : List ℕ) (many : length octets ≡ 2048) (small : AreOctets octets) (long : format_of octets ≡ 1) where
-      code : length (coded octets) ≡ 4096
-      code = omega (arith, length-coded octets, many)
-
-      erased : (c : List ℕ) → c ≡ written old (4096 * page) (blank 4096) → PageTurns old page octets before c
-      erased c is =
-          subst (λ (x : List ℕ). PageTurns old page octets before x) (sym is)
-          (outside-written old (4096 * page) 4096 within (blank 4096) ff, inl (subst (λ (p : List ℕ). PageFades (page_of old page) p) (sym erased_page) (erased_fades (page_of old page))))
-
-      programmed : (c : List ℕ) → Between (written old (4096 * page) (blank 4096)) (written old (4096 * page) (coded octets)) c → PageTurns old page octets before c ⊎ PageTurns old page octets after c
-      programmed c torn =
-          let out = outside-between old (4096 * page) 4096 within (blank 4096) (coded octets) ff code c torn in
-          let part = part-between old (4096 * page) 4096 within (blank 4096) (coded octets) ff code c torn in
-          ⊎_elim
-          (λ is. inr (same-whole old (4096 * page) 4096 within (coded octets) c code out is))
-          (λ dead. inl (out, inr dead))
-          (torn_program octets many small long (page_of c page) part)
-
-      pub turns : Refines exact (either (PageTurns old page octets)) old (written old (4096 * page) (blank 4096) ∷ written old (4096 * page) (coded octets) ∷ []) before (before ∷ after ∷ [])
-      turns = (
-        λ c is. let s = still c is in (s.0, inl s.1),
-        λ c torn. let f = fades c torn in inl (f.0, inl f.1),
-        (λ c is. erased c is, λ c torn. programmed c torn, λ c is. is),
-      )
-
--- slots
-module _ (old : List ℕ) (page slot : ℕ) (within : slot_place page slot + 1024 ≤ length old) (is_blank : slot_of old page slot ≡ blank 1024) (octets : List ℕ) (many : length octets ≡ 512) (small : AreOctets octets) where
-  slot_code : length (coded octets) ≡ 1024
-  slot_code = omega (arith, length-coded octets, many)
-
-  blank_ones : HasPairOfOnes (blank 1024)
-  blank_ones =
-      let size : length (blank 1024) ≡ 1024 = length-blank 1024 in
-      ff_pair (blank 1024) (omega (arith, size)) (get-blank 1024 0 (omega arith)) (get-blank 1024 1 (omega arith))
-
-  slot_still : (c : List ℕ) → c ≡ old → SlotTurns old page slot octets before c
-  slot_still c is =
-      subst (λ (x : List ℕ). SlotTurns old page slot octets before x) (sym is)
-      (outside_same (slot_place page slot) 1024 old, subst (λ (s : List ℕ). HasPairOfOnes s) (sym is_blank) blank_ones)
-
-  slot_torn : (c : List ℕ) → Between old (written old (slot_place page slot) (coded octets)) c → SlotTurns old page slot octets before c ⊎ SlotTurns old page slot octets after c
-  slot_torn c torn =
-      let out = torn-outside old (slot_place page slot) 1024 within (coded octets) slot_code c torn in
-      let part : Between (slot_of old page slot) (coded octets) (slot_of c page slot) = torn-part old (slot_place page slot) 1024 within (coded octets) slot_code c torn in
-      let from_blank : Between (blank (length (coded octets))) (coded octets) (slot_of c page slot) =
-      subst (λ (l : List ℕ). Between l (coded octets) (slot_of c page slot)) (is_blank ∙ ap blank (sym slot_code)) part in
-      ⊎_elim
-      (λ same. inr (same-whole old (slot_place page slot) 1024 within (coded octets) c slot_code out same))
-      (λ ones. inl (out, ones))
-      (torn_code (coded octets) (slot_of c page slot) (coded_is octets small) from_blank)
-
-  pub slot_turns : Refines exact (either (SlotTurns old page slot octets)) old (written old (slot_place page slot) (coded octets) ∷ []) before (after ∷ [])
-  slot_turns = (λ c is. slot_still c is, λ c torn. slot_torn c torn, λ c is. is)
-
--- the words of a page
-module _ (old : List ℕ) (page : ℕ) (within : 4096 * page + 4096 ≤ length old) where
-  erase_word : (t : Turn) (c : List ℕ) → PageErases old page t c → NoNewWord old page tt c
-  erase_word before c turned word is = no_new_word (page_of old page) (page_of c page) (inl turned.1) word is
-  erase_word after c turned word is =
-      no_new_word (page_of old page) (page_of c page) (inl (subst (λ (p : List ℕ). PageFades (page_of old page) p) (sym (ap (λ (o : List ℕ). page_of o page) turned ∙ erased_page old page within)) (erased_fades (page_of old page)))) word is
-
-  pub erase_words : Refines (either (PageErases old page)) (either (NoNewWord old page)) before (after ∷ []) tt (tt ∷ [])
-  erase_words = (erase_word before, λ c torn. inl (⊎_elim (erase_word before c) (erase_word after c) torn), erase_word after)
-
-  module _ (octets : List ℕ) (many : length octets ≡ 2048) (small : AreOctets octets) (long : format_of octets ≡ 1) where
-    page_new : (t : Turn) (c : List ℕ) → PageTurns old page octets t c → NoOtherWord old page (page_word octets) tt c
-    page_new before c turned word is = inl (no_new_word (page_of old page) (page_of c page) turned.1 word is)
-    page_new after c turned word is =
-        inr (written_word octets many small long word (subst (λ (p : List ℕ). IsWord p word) (page_turned old c octets page within many turned) is))
-
-    pub page_words : Refines (either (PageTurns old page octets)) (either (NoOtherWord old page (page_word octets))) before (before ∷ after ∷ []) tt (tt ∷ tt ∷ [])
-    page_words = (
-      page_new before,
-      λ c torn. inl (⊎_elim (page_new before c) (page_new before c) torn),
-      (page_new before, λ c torn. inl (⊎_elim (page_new before c) (page_new after c) torn), page_new after),
-    )
-
-  module _ (k : ℕ) (octets : List ℕ) (lt : k < 4) (many : length octets ≡ 512) (small : AreOctets octets) (can : CanWriteSlot (page_of old page) k) where
-    slot_new : (t : Turn) (c : List ℕ) → SlotTurns old page k octets t c → NoOtherWord old page (slot_word k octets) tt c
-    slot_new before c turned word is = one_slot_words (page_of old page) (page_of c page) k octets small can (slot_turned old c octets page k within lt many (inl turned)) word is
-    slot_new after c turned word is = one_slot_words (page_of old page) (page_of c page) k octets small can (slot_turned old c octets page k within lt many (inr turned)) word is
-
-    pub slot_words : Refines (either (SlotTurns old page k octets)) (either (NoOtherWord old page (slot_word k octets))) before (after ∷ []) tt (tt ∷ [])
-    slot_words = (slot_new before, λ c torn. inl (⊎_elim (slot_new before c) (slot_new after c) torn), slot_new after)
-
--- marks
-module _ (old : List ℕ) (at : ℕ) (within : at + 1 ≤ length old) (is_unset : get_or old at 0 ≡ 255) where
-  pub mark_turns : Refines exact (either (MarkTurns old at)) old (written old at (254 ∷ []) ∷ []) before (after ∷ [])
-  mark_turns = (λ c is. is, λ c torn. mark_torn old at c within (one_blank old at within is_unset) torn, λ c is. is)
-
--- the same for runs
 module _ (a : Seen) (sound : IsSound a) where
   pub within_told : (page : ℕ) → page < a.pages → IsTrue a.told → 4096 * page + 4096 ≤ length a.octets
   within_told page lies told = omega (arith, (sound.is_image told).size, lies)
@@ -173,94 +30,105 @@ module _ (a : Seen) (sound : IsSound a) where
   octet_within at lies told = omega (arith, (sound.is_image told).size, lies)
 
   -- what the erased page reads
-  pub erased_reads : (page : ℕ) → page < a.pages → (b : Seen) → Ran exact a.octets (written a.octets (4096 * page) (blank 4096) ∷ []) a b → IsTrue b.told
-      → (bytes : List ℕ) → length bytes ≡ 4096 → slice_range b.octets (4096 * page) (4096 * page + length bytes) ≡ blank (length bytes)
-  erased_reads page lies b ran told bytes size =
-      let was : IsTrue a.told = told_back a b ran.keeps told in
-      ap (λ (n : ℕ). slice_range b.octets (4096 * page) (4096 * page + n)) size
-      ∙ range-part b.octets (4096 * page) 4096
-      ∙ ap (λ (o : List ℕ). page_of o page) (ran.ends was)
-      ∙ erased_page a.octets page (within_told page lies was)
-      ∙ ap blank (sym size)
+  module _ (erase : EraseLaws) (page : ℕ) (lies : page < a.pages) (b : Seen) (ran : Ran exact a.octets (written a.octets (4096 * page) (blank 4096) ∷ []) a b) (told : IsTrue b.told) where
+    was : IsTrue a.told
+    was = told_back a b ran.keeps told
 
-  pub erased_slot_reads : (page : ℕ) → page < a.pages → (b : Seen) → Ran exact a.octets (written a.octets (4096 * page) (blank 4096) ∷ []) a b → IsTrue b.told → (k : ℕ) → k < 4 → slot_of b.octets page k ≡ blank 1024
-  erased_slot_reads page lies b ran told k lt =
-      let was : IsTrue a.told = told_back a b ran.keeps told in
-      ap (λ (o : List ℕ). slot_of o page k) (ran.ends was) ∙ erased_slot a.octets page (within_told page lies was) k lt
+    pub erased_reads : PartLaws → (bytes : List ℕ) → length bytes ≡ 4096 → slice_range b.octets (4096 * page) (4096 * page + length bytes) ≡ blank (length bytes)
+    erased_reads parts bytes size =
+        ap (λ (n : ℕ). slice_range b.octets (4096 * page) (4096 * page + n)) size
+        ∙ parts.range_part b.octets (4096 * page) 4096
+        ∙ ap (λ (o : List ℕ). page_of o page) (ran.ends was)
+        ∙ erase.page a.octets page (within_told page lies was)
+        ∙ ap blank (sym size)
 
-  module _ {T X : Type 0} (c : Seen) (result : Result T X) where
-    pub erase_runs : (page : ℕ) → page < a.pages → (IsTrue a.told → IsSafePage (page_of a.octets page)) → Runs exact a.octets (written a.octets (4096 * page) (blank 4096) ∷ []) a c result
-        → Runs (either (PageErases a.octets page)) before (after ∷ []) a c result
-    erase_runs page lies safe r =
-        runs_as exact (either (PageErases a.octets page)) a.octets (written a.octets (4096 * page) (blank 4096) ∷ []) before (after ∷ []) a c result refl
-        (λ told. erases a.octets page (within_told page lies told) (safe told)) r
+    pub erased_slot_reads : (k : ℕ) → k < 4 → slot_of b.octets page k ≡ blank 1024
+    erased_slot_reads k lt = ap (λ (o : List ℕ). slot_of o page k) (ran.ends was) ∙ erase.slots a.octets page (within_told page lies was) k lt
 
-    pub page_runs : (page : ℕ) (octets : List ℕ) → page < a.pages → length octets ≡ 2048 → AreOctets octets → format_of octets ≡ 1 → (IsTrue a.told → IsSafePage (page_of a.octets page))
-        → Runs exact a.octets (written a.octets (4096 * page) (blank 4096) ∷ written a.octets (4096 * page) (coded octets) ∷ []) a c result
-        → Runs (either (PageTurns a.octets page octets)) before (before ∷ after ∷ []) a c result
-    page_runs page octets lies many small long safe r =
-        runs_as exact (either (PageTurns a.octets page octets)) a.octets (written a.octets (4096 * page) (blank 4096) ∷ written a.octets (4096 * page) (coded octets) ∷ []) before (before ∷ after ∷ []) a c result refl
-        (λ told. turns a.octets page (within_told page lies told) (safe told) octets many small long) r
+  module _ {T X : Type 0} (c : Seen) (result : Result T X) (reads : RunsAreRead StateOf reading_of a c) where
+    runs_as : (way other : Way) (s : StateOf way) (xs : List (StateOf way)) (t : StateOf other) (ys : List (StateOf other)) → length xs ≡ length ys → (IsTrue a.told → Refines (reading_of way) (reading_of other) s xs t ys)
+        → Runs (reading_of way) s xs a c result → Runs (reading_of other) t ys a c result
+    runs_as way other s xs t ys same refines = by_result result
+      where
+        by_result : (r : Result T X) → Runs (reading_of way) s xs a c r → Runs (reading_of other) t ys a c r
+        by_result (Ok v) ran = reads.ran way other s xs t ys same refines ran
+        by_result (Err e) broke = reads.broke way other s xs t ys same refines broke
 
-    pub erase_stays : (page : ℕ) → page < a.pages → Runs exact a.octets (written a.octets (4096 * page) (blank 4096) ∷ []) a c result
-        → Runs (either (StaysOutside (4096 * page) 4096 a.octets)) tt (tt ∷ []) a c result
-    erase_stays page lies r =
-        runs_as exact (either (StaysOutside (4096 * page) 4096 a.octets)) a.octets (written a.octets (4096 * page) (blank 4096) ∷ []) tt (tt ∷ []) a c result refl
-        (λ told. erase_outside a.octets page (within_told page lies told)) r
+    module _ (erase : EraseLaws) (page : ℕ) (lies : page < a.pages) where
+      pub erase_runs : (IsTrue a.told → IsSafePage (page_of a.octets page)) → Runs exact a.octets (written a.octets (4096 * page) (blank 4096) ∷ []) a c result → Runs (either (PageErases a.octets page)) before (after ∷ []) a c result
+      erase_runs safe r = runs_as as_octets (page_erase a.octets page) _ _ _ _ refl (λ told. erase.turns a.octets page (within_told page lies told) (safe told)) r
 
-    pub write_stays : (page : ℕ) (octets : List ℕ) → page < a.pages → length octets ≡ 2048
-        → Runs exact a.octets (written a.octets (4096 * page) (blank 4096) ∷ written a.octets (4096 * page) (coded octets) ∷ []) a c result
-        → Runs (either (StaysOutside (4096 * page) 4096 a.octets)) tt (tt ∷ tt ∷ []) a c result
-    write_stays page octets lies many r =
-        runs_as exact (either (StaysOutside (4096 * page) 4096 a.octets)) a.octets (written a.octets (4096 * page) (blank 4096) ∷ written a.octets (4096 * page) (coded octets) ∷ []) tt (tt ∷ tt ∷ []) a c result refl
-        (λ told. write_outside a.octets page (within_told page lies told) (coded octets) (omega (arith, length-coded octets, many))) r
+      pub erase_stays : Runs exact a.octets (written a.octets (4096 * page) (blank 4096) ∷ []) a c result → Runs (either (StaysOutside (4096 * page) 4096 a.octets)) tt (tt ∷ []) a c result
+      erase_stays r = runs_as as_octets (outside (4096 * page) 4096 a.octets) _ _ _ _ refl (λ told. erase.stays a.octets page (within_told page lies told)) r
 
-    -- an erase, and then a program of the same page
-    pub page_operations : (page : ℕ) (octets : List ℕ) → page < a.pages → length octets ≡ 2048 → (b : Seen) → Ran exact a.octets (written a.octets (4096 * page) (blank 4096) ∷ []) a b
-        → Runs exact b.octets (written b.octets (4096 * page) (coded octets) ∷ []) b c result
-        → Runs exact a.octets (written a.octets (4096 * page) (blank 4096) ∷ written a.octets (4096 * page) (coded octets) ∷ []) a c result
-    page_operations page octets lies many b ran more =
-        let E : List ℕ = written a.octets (4096 * page) (blank 4096) in
-        let W : List ℕ = written a.octets (4096 * page) (coded octets) in
-        let V : List ℕ = written E (4096 * page) (coded octets) in
-        let same : IsTrue a.told → V ≡ W = λ told. written-written a.octets (4096 * page) (blank 4096) (coded octets) (omega (arith, length-blank 4096, length-coded octets, many)) (omega (arith, length-coded octets, many, within_told page lies told)) in
-        runs_as exact exact a.octets (E ∷ V ∷ []) a.octets (E ∷ W ∷ []) a c result refl
-        (λ told. subst (λ (o : List ℕ). Refines exact exact a.octets (E ∷ V ∷ []) a.octets (E ∷ o ∷ [])) (same told) (refines_same exact a.octets (E ∷ V ∷ [])))
-        (one_operation a.octets (E ∷ []) (λ o. written o (4096 * page) (coded octets)) a b c result ran more)
+      pub erase_word_runs : Runs (either (PageErases a.octets page)) before (after ∷ []) a c result → Runs (either (NoNewWord a.octets page)) tt (tt ∷ []) a c result
+      erase_word_runs r = runs_as (page_erase a.octets page) (no_new_word a.octets page) _ _ _ _ refl (λ told. erase.words a.octets page (within_told page lies told)) r
 
-    pub slot_runs : (page slot : ℕ) (octets : List ℕ) → page < a.pages → slot < 4 → length octets ≡ 512 → AreOctets octets → (IsTrue a.told → slot_of a.octets page slot ≡ blank 1024)
-        → Runs exact a.octets (written a.octets (slot_place page slot) (coded octets) ∷ []) a c result
-        → Runs (either (SlotTurns a.octets page slot octets)) before (after ∷ []) a c result
-    slot_runs page slot octets lies few many small is_blank r =
-        runs_as exact (either (SlotTurns a.octets page slot octets)) a.octets (written a.octets (slot_place page slot) (coded octets) ∷ []) before (after ∷ []) a c result refl
-        (λ told. slot_turns a.octets page slot (slot_within page slot lies few told) (is_blank told) octets many small) r
+    module _ (whole : WholePageLaws) (page : ℕ) (octets : List ℕ) (lies : page < a.pages) (many : length octets ≡ 2048) where
+      pub page_runs : AreOctets octets → format_of octets ≡ 1 → (IsTrue a.told → IsSafePage (page_of a.octets page))
+          → Runs exact a.octets (written a.octets (4096 * page) (blank 4096) ∷ written a.octets (4096 * page) (coded octets) ∷ []) a c result
+          → Runs (either (PageTurns a.octets page octets)) before (before ∷ after ∷ []) a c result
+      page_runs small long safe r = runs_as as_octets (page_write a.octets page octets) _ _ _ _ refl (λ told. whole.turns a.octets page (within_told page lies told) (safe told) octets many small long) r
 
-    pub erase_word_runs : (page : ℕ) → page < a.pages → Runs (either (PageErases a.octets page)) before (after ∷ []) a c result → Runs (either (NoNewWord a.octets page)) tt (tt ∷ []) a c result
-    erase_word_runs page lies r =
-        runs_as (either (PageErases a.octets page)) (either (NoNewWord a.octets page)) before (after ∷ []) tt (tt ∷ []) a c result refl (λ told. erase_words a.octets page (within_told page lies told)) r
+      pub write_stays : CodedHasItsLength → Runs exact a.octets (written a.octets (4096 * page) (blank 4096) ∷ written a.octets (4096 * page) (coded octets) ∷ []) a c result
+          → Runs (either (StaysOutside (4096 * page) 4096 a.octets)) tt (tt ∷ tt ∷ []) a c result
+      write_stays length-coded r =
+          runs_as as_octets (outside (4096 * page) 4096 a.octets) _ _ _ _ refl (λ told. whole.stays a.octets page (within_told page lies told) (coded octets) (omega (arith, length-coded octets, many))) r
 
-    pub page_word_runs : (page : ℕ) (octets : List ℕ) → page < a.pages → length octets ≡ 2048 → AreOctets octets → format_of octets ≡ 1
-        → Runs (either (PageTurns a.octets page octets)) before (before ∷ after ∷ []) a c result → Runs (either (NoOtherWord a.octets page (page_word octets))) tt (tt ∷ tt ∷ []) a c result
-    page_word_runs page octets lies many small long r =
-        runs_as (either (PageTurns a.octets page octets)) (either (NoOtherWord a.octets page (page_word octets))) before (before ∷ after ∷ []) tt (tt ∷ tt ∷ []) a c result refl
-        (λ told. page_words a.octets page (within_told page lies told) octets many small long) r
+      pub page_word_runs : AreOctets octets → format_of octets ≡ 1 → Runs (either (PageTurns a.octets page octets)) before (before ∷ after ∷ []) a c result
+          → Runs (either (NoOtherWord a.octets page (page_word octets))) tt (tt ∷ tt ∷ []) a c result
+      page_word_runs small long r = runs_as (page_write a.octets page octets) (no_other_word a.octets page (page_word octets)) _ _ _ _ refl (λ told. whole.words a.octets page (within_told page lies told) octets many small long) r
 
-    pub slot_word_runs : (page k : ℕ) (octets : List ℕ) → page < a.pages → k < 4 → length octets ≡ 512 → AreOctets octets → (IsTrue a.told → CanWriteSlot (page_of a.octets page) k)
-        → Runs (either (SlotTurns a.octets page k octets)) before (after ∷ []) a c result → Runs (either (NoOtherWord a.octets page (slot_word k octets))) tt (tt ∷ []) a c result
-    slot_word_runs page k octets lies lt many small can r =
-        runs_as (either (SlotTurns a.octets page k octets)) (either (NoOtherWord a.octets page (slot_word k octets))) before (after ∷ []) tt (tt ∷ []) a c result refl
-        (λ told. slot_words a.octets page (within_told page lies told) k octets lt many small (can told)) r
+    module _ (slots : SlotLaws) (page slot : ℕ) (octets : List ℕ) (lies : page < a.pages) (few : slot < 4) (many : length octets ≡ 512) (small : AreOctets octets) where
+      pub slot_runs : (IsTrue a.told → slot_of a.octets page slot ≡ blank 1024) → Runs exact a.octets (written a.octets (slot_place page slot) (coded octets) ∷ []) a c result
+          → Runs (either (SlotTurns a.octets page slot octets)) before (after ∷ []) a c result
+      slot_runs is_blank r = runs_as as_octets (slot_write a.octets page slot octets) _ _ _ _ refl (λ told. slots.turns a.octets page slot (slot_within page slot lies few told) (is_blank told) octets many small) r
 
-    pub mark_runs : (at : ℕ) → at < 4096 * a.pages → (IsTrue a.told → get_or a.octets at 0 ≡ 255) → Runs exact a.octets (written a.octets at (254 ∷ []) ∷ []) a c result
+      pub slot_word_runs : (IsTrue a.told → CanWriteSlot (page_of a.octets page) slot) → Runs (either (SlotTurns a.octets page slot octets)) before (after ∷ []) a c result
+          → Runs (either (NoOtherWord a.octets page (slot_word slot octets))) tt (tt ∷ []) a c result
+      slot_word_runs can r = runs_as (slot_write a.octets page slot octets) (no_other_word a.octets page (slot_word slot octets)) _ _ _ _ refl (λ told. slots.words a.octets page (within_told page lies told) slot octets few many small (can told)) r
+
+    pub mark_runs : MarkLaw → (at : ℕ) → at < 4096 * a.pages → (IsTrue a.told → get_or a.octets at 0 ≡ 255) → Runs exact a.octets (written a.octets at (254 ∷ []) ∷ []) a c result
         → Runs (either (MarkTurns a.octets at)) before (after ∷ []) a c result
-    mark_runs at lies is_unset r =
-        runs_as exact (either (MarkTurns a.octets at)) a.octets (written a.octets at (254 ∷ []) ∷ []) before (after ∷ []) a c result refl
-        (λ told. mark_turns a.octets at (octet_within at lies told) (is_unset told)) r
+    mark_runs mark at lies is_unset r = runs_as as_octets (mark_write a.octets at) _ _ _ _ refl (λ told. mark a.octets at (octet_within at lies told) (is_unset told)) r
+
+-- an erase, and then a program of the same page
+module _ (writes : WriteLaws) (parts : PartLaws) (length-coded : CodedHasItsLength) (a b c : Seen) (sound : IsSound a) (join : RunsJoin StateOf reading_of a b c) (bc : RunsAreRead StateOf reading_of b c)
+    (page : ℕ) (octets : List ℕ) (lies : page < a.pages) (many : length octets ≡ 2048) (ran : Ran exact a.octets (written a.octets (4096 * page) (blank 4096) ∷ []) a b) where
+  abbrev E : List ℕ
+  E = written a.octets (4096 * page) (blank 4096)
+
+  abbrev W : List ℕ
+  W = written a.octets (4096 * page) (coded octets)
+
+  abbrev V : List ℕ
+  V = written b.octets (4096 * page) (coded octets)
+
+  left : IsTrue b.told → b.octets ≡ E
+  left told = ran.ends (told_back a b ran.keeps told)
+
+  over : IsTrue b.told → V ≡ W
+  over told =
+      ap (λ (o : List ℕ). written o (4096 * page) (coded octets)) (left told)
+      ∙ writes.written_twice a.octets (4096 * page) (blank 4096) (coded octets) (omega (arith, parts.length_blank 4096, length-coded octets, many)) (omega (arith, length-coded octets, many, within_told a sound page lies (told_back a b ran.keeps told)))
+
+  -- the second operation, on what the first one left
+  second : IsTrue b.told → Refines exact exact b.octets (V ∷ []) E (W ∷ [])
+  second told = (
+    λ x is. is ∙ left told,
+    λ x torn. subst (λ (o : List ℕ). Between o W x) (left told) (subst (λ (v : List ℕ). Between b.octets v x) (over told) torn),
+    λ x is. is ∙ over told,
+  )
+
+  pub page_operations : {T X : Type 0} (result : Result T X) → Runs exact b.octets (written b.octets (4096 * page) (coded octets) ∷ []) b c result
+      → Runs exact a.octets (written a.octets (4096 * page) (blank 4096) ∷ written a.octets (4096 * page) (coded octets) ∷ []) a c result
+  page_operations (Ok v) more = join.ran as_octets a.octets (E ∷ []) (W ∷ []) ran (bc.ran as_octets as_octets b.octets (V ∷ []) E (W ∷ []) refl second more)
+  page_operations (Err e) more = join.broke as_octets a.octets (E ∷ []) (W ∷ []) ran (bc.broke as_octets as_octets b.octets (V ∷ []) E (W ∷ []) refl second more)
 
 -- what a read of a word gives, and what its decoding says of it
-module _ (octets : List ℕ) (at n : ℕ) (word : List ℕ) (word_is : word ≡ slice_range octets at (at + n)) where
-  pub is_part : word ≡ part_of octets at n
-  is_part = word_is ∙ range-part octets at n
+module _ (parts : PartLaws) (octets : List ℕ) (at n : ℕ) (word : List ℕ) (word_is : word ≡ slice_range octets at (at + n)) where
+  is_part : word ≡ part_of octets at n
+  is_part = word_is ∙ parts.range_part octets at n
 
   pub no_code : ¬ IsCodeWord word → ¬ IsCodeWord (part_of octets at n)
   no_code not is = not (subst (λ (w : List ℕ). IsCodeWord w) (sym is_part) is)

@@ -5,11 +5,13 @@ mod code;
 mod mark;
 mod page;
 mod slot;
+mod ways;
 
 pub use mark::{Mark, read_mark, write_mark};
 pub use mu_outside::Failed;
 pub use page::{erase_page, read_page, write_page};
 pub use slot::{read_slot, write_slot};
+pub use ways::Ways;
 
 #[cfg(test)]
 mod tests;

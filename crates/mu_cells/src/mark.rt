@@ -7,6 +7,9 @@ ghost use Rattle.mu_model_flash.specs.Run.{exact, either, Runs};
 ghost use Rattle.mu_model_record.specs.Turns.{before, after, MarkTurns};
 ghost use Rattle.mu_cells.specs.Mark.{mark_of};
 
+use crate::ways::Ways;
+use mu_model_flash::laws::{ranges_of_octets, runs};
+use mu_model_record::laws::turns;
 use mu_outside::{Failed, Flash};
 
 /// What an octet is as a mark: `Unset` is FF, `Set` is FE.
@@ -27,6 +30,9 @@ pub fn write_mark<F: Flash>(flash: &mut F, at: u32) -> Result<(), Failed>
     ensures cuts { Runs (either (MarkTurns (F.seen flash.old).octets at)) before (after ∷ []) (F.seen flash.old) (F.seen flash.new) result }
     ensures cause { HasCause (F.seen flash.old).faults (F.seen flash.new).faults result }
 {
+    ranges_of_octets();
+    runs::<Ways<F>>();
+    turns();
     flash.program(at, &[0xFE])
 }
 

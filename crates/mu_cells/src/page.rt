@@ -9,6 +9,9 @@ ghost use Rattle.mu_model_record.specs.Page.{page_of, format_of, page_word, IsSa
 ghost use Rattle.mu_model_record.specs.Turns.{before, after, PageErases, PageTurns, StaysOutside, NoNewWord, NoOtherWord};
 
 use crate::code::{decode, encode};
+use crate::ways::Ways;
+use mu_model_flash::laws::{ranges_of_octets, runs};
+use mu_model_record::laws::{code_words, turns};
 use mu_outside::{Failed, Flash};
 
 pub(crate) const PAGE: u32 = 4096;
@@ -29,6 +32,8 @@ pub fn erase_page<F: Flash>(flash: &mut F, page: u32) -> Result<(), Failed>
         → Runs (either (NoNewWord (F.seen flash.old).octets page)) tt (tt ∷ []) (F.seen flash.old) (F.seen flash.new) result }
     ensures cause { HasCause (F.seen flash.old).faults (F.seen flash.new).faults result }
 {
+    runs::<Ways<F>>();
+    turns();
     flash.erase(page)
 }
 
@@ -53,6 +58,10 @@ pub fn write_page<F: Flash>(flash: &mut F, page: u32, octets: &[u8; 2048]) -> Re
         → Runs (either (NoOtherWord (F.seen flash.old).octets page (page_word octets.now))) tt (tt ∷ tt ∷ []) (F.seen flash.old) (F.seen flash.new) result }
     ensures cause { HasCause (F.seen flash.old).faults (F.seen flash.new).faults result }
 {
+    ranges_of_octets();
+    runs::<Ways<F>>();
+    code_words();
+    turns();
     let mut word = [0; 4096];
     encode(octets, &mut word);
     flash.erase(page)?;
@@ -70,6 +79,7 @@ pub fn read_page<F: Flash>(flash: &mut F, page: u32) -> Result<Option<[u8; 2048]
     ensures operations { Runs exact (F.seen flash.old).octets [] (F.seen flash.old) (F.seen flash.new) result }
     ensures cause { HasCause (F.seen flash.old).faults (F.seen flash.new).faults result }
 {
+    ranges_of_octets();
     let mut word = [0; 4096];
     flash.read(PAGE * page, &mut word)?;
     let mut octets = [0; 2048];

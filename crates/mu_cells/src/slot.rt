@@ -10,6 +10,9 @@ ghost use Rattle.mu_model_record.specs.Turns.{before, after, SlotTurns, NoOtherW
 
 use crate::code::{decode, encode};
 use crate::page::PAGE;
+use crate::ways::Ways;
+use mu_model_flash::laws::{ranges_of_octets, runs};
+use mu_model_record::laws::{code_words, turns};
 use mu_outside::{Failed, Flash};
 
 const SLOT: u32 = 1024;
@@ -35,6 +38,10 @@ pub fn write_slot<F: Flash>(
         → Runs (either (NoOtherWord (F.seen flash.old).octets page (slot_word slot octets.now))) tt (tt ∷ []) (F.seen flash.old) (F.seen flash.new) result }
     ensures cause { HasCause (F.seen flash.old).faults (F.seen flash.new).faults result }
 {
+    ranges_of_octets();
+    runs::<Ways<F>>();
+    code_words();
+    turns();
     let mut word = [0; 1024];
     encode(octets, &mut word);
     flash.program(PAGE * page + SLOT * slot as u32, &word)
@@ -52,6 +59,7 @@ pub fn read_slot<F: Flash>(flash: &mut F, page: u32, slot: u8) -> Result<Option<
     ensures operations { Runs exact (F.seen flash.old).octets [] (F.seen flash.old) (F.seen flash.new) result }
     ensures cause { HasCause (F.seen flash.old).faults (F.seen flash.new).faults result }
 {
+    ranges_of_octets();
     let mut word = [0; 1024];
     flash.read(PAGE * page + SLOT * slot as u32, &mut word)?;
     let mut octets = [0; 512];

@@ -4,6 +4,7 @@ ghost use Rattle.std.specs.Prelude.{◌<◌, ◌^◌};
 use crate::{
     Mark, erase_page, read_mark, read_page, read_slot, write_mark, write_page, write_slot,
 };
+use mu_model_record::laws::turns;
 use mu_outside::{CutFlash, Failed, FaultyFlash, Flash, Pattern, Plug, RamFlash};
 use std::alloc::Global;
 use std::process::Abort;
@@ -49,6 +50,7 @@ fn put_slot<F: Flash>(flash: &mut F, number: u8, octets: &[u8; 512]) -> Result<(
     requires one { 0 < (F.seen flash.old).pages }
     requires few { number < 4 }
 {
+    turns();
     erase_page(flash, 0)?;
     write_slot(flash, 0, number, octets)
 }

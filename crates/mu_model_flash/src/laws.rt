@@ -1,10 +1,24 @@
 //! Laws of flash runs: functions that do nothing, whose contracts are proved for any flash, any states and any reading.
-ghost use Rattle.std.specs.Prelude.{◌≡◌, ℕ, ◌++◌, List, [], IsTrue, false, length};
-ghost use Rattle.mu_model_flash.specs.Flash.{Seen, IsSound, IsBefore, Unchanged};
-ghost use Rattle.mu_model_flash.specs.Run.{Reading, either, last_of, Refines, Ran, Broke};
+ghost use Rattle.std.specs.Prelude.{◌≡◌, ℕ, List, IsTrue, false, length};
+ghost use Rattle.mu_model_flash.specs.Flash.{Seen, IsBefore};
+ghost use Rattle.mu_model_flash.specs.Laws.{RangeLaws, RunsJoin, RunsAreRead};
+ghost use Rattle.mu_model_flash.specs.Run.{Reading, either, Ran, Broke};
 ghost use Rattle.mu_model_flash.specs.Sentences.{Done, Failing};
 
-/// Any reading of octets as states, the states that two lists of operations pass, and a flash at three moments.
+/// Flashes of a type, and the ways in which their octets are read as states.
+pub trait Readings {
+    ghost Flash: { Type 0 };
+
+    ghost seen: { Flash → Seen };
+
+    ghost Way: { Type 0 };
+
+    ghost State: { Way → Type 0 };
+
+    ghost reading: { (way : Way) → Reading (State way) };
+}
+
+/// A reading of octets as states, the states that operations pass, and a flash before and after them.
 pub trait Course {
     ghost State: { Type 0 };
 
@@ -12,34 +26,7 @@ pub trait Course {
 
     ghost start: { State };
 
-    ghost first: { List State };
-
-    ghost second: { List State };
-
-    ghost before: { Seen };
-
-    ghost between: { Seen };
-
-    ghost after: { Seen };
-}
-
-/// Two readings of the same operations, as states of two kinds, and a flash before and after them.
-pub trait TwoReadings {
-    ghost Fine: { Type 0 };
-
-    ghost Coarse: { Type 0 };
-
-    ghost fine: { Reading Fine };
-
-    ghost coarse: { Reading Coarse };
-
-    ghost fine_start: { Fine };
-
-    ghost coarse_start: { Coarse };
-
-    ghost fine_steps: { List Fine };
-
-    ghost coarse_steps: { List Coarse };
+    ghost steps: { List State };
 
     ghost before: { Seen };
 
@@ -61,57 +48,23 @@ pub trait Standing {
     ghost after: { Seen };
 }
 
-/// A call that began no operation and changed no meaning is a run of none.
-pub fn no_operation<C: Course>()
-    requires sound { IsSound C.before }
-    requires same { Unchanged C.before C.after }
-    requires on { C.before.off ≡ false }
-    requires here { IsTrue C.before.told → C.reading.Is C.start C.before.octets }
-    ensures { Ran C.reading C.start [] C.before C.after }
+/// Parts of octets, ranges that are written, and ranges whose write is cut short.
+pub fn ranges_of_octets()
+    ensures { RangeLaws }
 {}
 
-/// A run, and then a run from where it ended, are a run of all their operations.
-pub fn joined_run<C: Course>()
-    requires first { Ran C.reading C.start C.first C.before C.between }
-    requires second { Ran C.reading (last_of C.start C.first) C.second C.between C.after }
-    ensures { Ran C.reading C.start (C.first ++ C.second) C.before C.after }
-{}
-
-/// A run, and then one that failed, are one that failed.
-pub fn joined_failure<C: Course>()
-    requires first { Ran C.reading C.start C.first C.before C.between }
-    requires second { Broke C.reading (last_of C.start C.first) C.second C.between C.after }
-    ensures { Broke C.reading C.start (C.first ++ C.second) C.before C.after }
-{}
-
-/// A run that failed is one that failed with any operations that were still to come.
-pub fn longer_failure<C: Course>()
-    requires { Broke C.reading C.start C.first C.before C.after }
-    ensures { Broke C.reading C.start (C.first ++ C.second) C.before C.after }
+/// Runs one after the other are a run of all their operations, and a run is read as one of other states, operation by operation.
+pub fn runs<R: Readings>()
+    ensures join { (a b c : R.Flash) → RunsJoin R.State R.reading (R.seen a) (R.seen b) (R.seen c) }
+    ensures read { (a b : R.Flash) → RunsAreRead R.State R.reading (R.seen a) (R.seen b) }
 {}
 
 /// Where calls fail by an armed operation alone, and none is armed within the operations, no call fails.
 pub fn no_failure<C: Course>()
     requires only_armed { IsTrue C.before.only_armed }
     requires on { C.before.off ≡ false }
-    requires unreached { IsBefore (length C.first) C.before.armed }
-    ensures { ¬ Broke C.reading C.start C.first C.before C.after }
-{}
-
-/// A run is read as one of other states, operation by operation.
-pub fn coarser_run<C: TwoReadings>()
-    requires refines { IsTrue C.before.told → Refines C.fine C.coarse C.fine_start C.fine_steps C.coarse_start C.coarse_steps }
-    requires as_many { length C.fine_steps ≡ length C.coarse_steps }
-    requires fine { Ran C.fine C.fine_start C.fine_steps C.before C.after }
-    ensures { Ran C.coarse C.coarse_start C.coarse_steps C.before C.after }
-{}
-
-/// So is one that failed.
-pub fn coarser_failure<C: TwoReadings>()
-    requires refines { IsTrue C.before.told → Refines C.fine C.coarse C.fine_start C.fine_steps C.coarse_start C.coarse_steps }
-    requires as_many { length C.fine_steps ≡ length C.coarse_steps }
-    requires fine { Broke C.fine C.fine_start C.fine_steps C.before C.after }
-    ensures { Broke C.coarse C.coarse_start C.coarse_steps C.before C.after }
+    requires unreached { IsBefore (length C.steps) C.before.armed }
+    ensures { ¬ Broke C.reading C.start C.steps C.before C.after }
 {}
 
 /// What is promised of every call that was done.

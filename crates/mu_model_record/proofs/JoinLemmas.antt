@@ -1,11 +1,11 @@
 -- The blocks of a bank that are all held, joined, are what lies in it.
-use Rattle.std.proofs.Common.{◌≡◌, ◌⊎◌, inl, inr, ⊎_elim, ℕ, zero, suc, ◌+◌, ◌-◌, ◌*◌, ◌/◌, ◌%◌, ◌^◌, ◌<◌, ◌≤◌, Option, Some, None, List, [], ◌∷◌, ◌++◌, length, get_or, min, take, drop, refl, sym, ◌∙◌, ap, subst, arith}
+use Rattle.std.proofs.Common.{◌≡◌, ◌⊎◌, inl, inr, ℕ, suc, ◌+◌, ◌-◌, ◌*◌, ◌^◌, ◌<◌, ◌≤◌, Option, Some, None, List, [], ◌∷◌, ◌++◌, length, refl, sym, ◌∙◌, ap, subst, arith}
 use Rattle.std.specs.Prelude.{slice_index_or}
 use Rattle.std.proofs.lemmas.Nat.{pow_pos, mod_below, div-add-mod'}
 use Rattle.mu_model_image.specs.Pieces.{block_count, block_length}
 use Rattle.mu_model_flash.specs.Bits.{part_of}
 use Rattle.mu_model_record.specs.declared.Record.{Record}
-use Rattle.mu_model_record.specs.Store.{bank_place, block_place, BlockLies, BlocksLie}
+use Rattle.mu_model_record.specs.Store.{bank_place, BlockLies, BlocksLie}
 use Rattle.mu_model_record.specs.Changes.{joined}
 use Rattle.mu_model_record.proofs.FrameLemmas.{block_begins}
 use Rattle.mu_model_record.proofs.PartLemmas.{part_joined}

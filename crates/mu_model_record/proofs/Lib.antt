@@ -15,3 +15,4 @@ pub mod PartLemmas
 pub mod BlockLemmas
 pub mod JoinLemmas
 pub mod PropLemmas
+pub mod TurnLemmas

@@ -1,5 +1,5 @@
 -- What holds of code words and of the words of a page.
-use Rattle.std.specs.Prelude.{◌≡◌, ◌⊎◌, ℕ, ◌+◌, ◌*◌, ◌<◌, ◌≤◌, List, length}
+use Rattle.std.specs.Prelude.{◌≡◌, ◌⊎◌, ◌↔◌, ℕ, ◌+◌, ◌-◌, ◌*◌, ◌<◌, ◌≤◌, List, [], ◌∷◌, ◌++◌, length, slice_index}
 use Rattle.mu_model_flash.specs.Bits.{AreOctets, blank, Between}
 use Rattle.mu_model_record.specs.Code.{coded, IsCodeWord, content_of, HasPairOfOnes}
 use Rattle.mu_model_record.specs.Page.{page_of, slot_of, slot_in, format_of, Word, page_word, slot_word, IsWord, IsSafePage, IsDead, PageFades, CanWriteSlot, SlotChanges}
@@ -12,6 +12,22 @@ CodedIsReadBack = (xs : List ℕ) → AreOctets xs → IsCodeWord (coded xs) × 
 -- a code word is the coded content
 abbrev pub CodeWordsAreCoded : Type 0
 CodeWordsAreCoded = (word : List ℕ) → IsCodeWord word → coded (content_of word) ≡ word
+
+-- it has two octets for each one
+abbrev pub CodedHasItsLength : Type 0
+CodedHasItsLength = (xs : List ℕ) → length (coded xs) ≡ 2 * length xs
+
+-- one octet more is one pair more: the octet and its complement
+abbrev pub OneOctetIsOnePair : Type 0
+OneOctetIsOnePair = (xs : List ℕ) (x : ℕ) → coded (xs ++ x ∷ []) ≡ coded xs ++ x ∷ (255 - x) ∷ []
+
+-- a code word is made of pairs whose sum is 255
+abbrev pub PairsMakeACodeWord : Type 0
+PairsMakeACodeWord = (word : List ℕ) (n : ℕ) → length word ≡ 2 * n → IsCodeWord word ↔ ((i : ℕ) → i < n → slice_index word (2 * i) + slice_index word (2 * i + 1) ≡ 255)
+
+-- its content is made of the first ones of its pairs
+abbrev pub ContentIsEveryFirst : Type 0
+ContentIsEveryFirst = (word : List ℕ) (n : ℕ) → length word ≡ 2 * n → (length (content_of word) ≡ n) × ((i : ℕ) → i < n → slice_index (content_of word) i ≡ slice_index word (2 * i))
 
 -- a pair of ones is in no code word
 abbrev pub PairOfOnesIsNoCodeWord : Type 0

@@ -1,6 +1,8 @@
 pub mod Code
 pub mod Page
 pub mod Turns
+pub mod TurnLaws
+pub mod Ways
 pub mod Record
 pub mod Store
 pub mod Free

@@ -39,3 +39,7 @@ NoNewWord old page here c = (word : Word) → IsWord (page_of c page) word → I
 -- The page has no word that it hadn't, but the new one.
 abbrev pub NoOtherWord : List ℕ → ℕ → Word → Unit {0} → List ℕ → Type 0
 NoOtherWord old page new here c = (word : Word) → IsWord (page_of c page) word → IsWord (page_of old page) word ⊎ (word ≡ new)
+
+-- Whatever the octets are.
+abbrev pub Anything : Unit {0} → List ℕ → Type 0
+Anything here c = Unit {0}

@@ -1,10 +1,15 @@
 //! Laws of code words and control pages: functions that do nothing, whose contracts are proved.
-ghost use Rattle.mu_model_record.specs.Laws.{CodedIsReadBack, CodeWordsAreCoded, PairOfOnesIsNoCodeWord, TornEraseFades, FadedHasNoNewWord, FadedIsSafe, WrittenPageHasItsWord, TornPageIsWholeOrDead, WrittenSlotHasItsWord, WrittenSlotIsSafe, TurnsOfAPage, TurnsOfASlot, SlotsOfAPage};
+ghost use Rattle.mu_model_record.specs.Laws.{CodedIsReadBack, CodeWordsAreCoded, CodedHasItsLength, OneOctetIsOnePair, PairsMakeACodeWord, ContentIsEveryFirst, PairOfOnesIsNoCodeWord, TornEraseFades, FadedHasNoNewWord, FadedIsSafe, WrittenPageHasItsWord, TornPageIsWholeOrDead, WrittenSlotHasItsWord, WrittenSlotIsSafe, TurnsOfAPage, TurnsOfASlot, SlotsOfAPage};
+ghost use Rattle.mu_model_record.specs.TurnLaws.{EraseLaws, WholePageLaws, SlotLaws, MarkLaw};
 
 /// Code words and their contents are one to one, and a pair of ones is in none.
 pub fn code_words()
     ensures read_back { CodedIsReadBack }
     ensures coded { CodeWordsAreCoded }
+    ensures length { CodedHasItsLength }
+    ensures one_more { OneOctetIsOnePair }
+    ensures pairs { PairsMakeACodeWord }
+    ensures content { ContentIsEveryFirst }
     ensures no_pair { PairOfOnesIsNoCodeWord }
 {}
 
@@ -32,4 +37,12 @@ pub fn pages_of_a_flash()
     ensures page { TurnsOfAPage }
     ensures slot { TurnsOfASlot }
     ensures slots { SlotsOfAPage }
+{}
+
+/// What an operation on a control page, a slot or a mark leaves of the octets of a flash, whole or cut short.
+pub fn turns()
+    ensures erase { EraseLaws }
+    ensures page { WholePageLaws }
+    ensures slot { SlotLaws }
+    ensures mark { MarkLaw }
 {}

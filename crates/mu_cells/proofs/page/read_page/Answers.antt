@@ -4,8 +4,8 @@ use Rattle.mu_cells.proofs.page.read_page.Goals as goal
 
 pub returns-then-decode-clause-content : goal.returns-then-decode-clause-content
 returns-then-decode-clause-content g c told =
-    some_code (g.F.Flash.seen c.args.flash.now).octets (4096 * c.args.page) 4096 c.read.new.out (c.in_ok-read.ensures.gives told) c.decode.new.octets (c.if-decode.ensures.code.0 refl) (c.if-decode.ensures.content refl)
+    some_code c.ranges_of_octets.ensures.parts (g.F.Flash.seen c.args.flash.now).octets (4096 * c.args.page) 4096 c.read.new.out (c.in_ok-read.ensures.gives told) c.decode.new.octets (c.if-decode.ensures.code.0 refl) (c.if-decode.ensures.content refl)
 
 pub returns-else-decode-clause-content : goal.returns-else-decode-clause-content
 returns-else-decode-clause-content g c told =
-    no_code (g.F.Flash.seen c.args.flash.now).octets (4096 * c.args.page) 4096 c.read.new.out (c.in_ok-read.ensures.gives told) (λ is. cc (c.if-decode.ensures.code.1 is))
+    no_code c.ranges_of_octets.ensures.parts (g.F.Flash.seen c.args.flash.now).octets (4096 * c.args.page) 4096 c.read.new.out (c.in_ok-read.ensures.gives told) (λ is. cc (c.if-decode.ensures.code.1 is))

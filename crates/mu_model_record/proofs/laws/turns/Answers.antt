@@ -1,0 +1,14 @@
+use Rattle.mu_model_record.proofs.TurnLemmas.{erase_outside, erases, erase_words, erased_page, erased_slot, write_outside, turns, page_words, slot_turns, slot_words, mark_turns}
+use Rattle.mu_model_record.proofs.laws.turns.Goals as goal
+
+pub returns-clause-erase : goal.returns-clause-erase
+returns-clause-erase c = record { stays = erase_outside; turns = erases; words = erase_words; page = erased_page; slots = erased_slot }
+
+pub returns-clause-page : goal.returns-clause-page
+returns-clause-page c = record { stays = write_outside; turns = turns; words = page_words }
+
+pub returns-clause-slot : goal.returns-clause-slot
+returns-clause-slot c = record { turns = slot_turns; words = λ old page within slot octets. slot_words old page within slot octets }
+
+pub returns-clause-mark : goal.returns-clause-mark
+returns-clause-mark c = mark_turns
