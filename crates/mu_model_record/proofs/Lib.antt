@@ -9,6 +9,7 @@ pub mod NextLemmas
 pub mod RecordLemmas
 pub mod ChangeLemmas
 pub mod KindLemmas
+pub mod OneLemmas
 pub mod FreeLemmas
 pub mod RunOfPages
 pub mod PartLemmas

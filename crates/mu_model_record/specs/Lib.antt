@@ -5,6 +5,7 @@ pub mod TurnLaws
 pub mod Ways
 pub mod Record
 pub mod Store
+pub mod StoreLaws
 pub mod Free
 pub mod Represents
 pub mod Kinds

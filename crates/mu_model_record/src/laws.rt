@@ -1,6 +1,7 @@
 //! Laws of code words and control pages: functions that do nothing, whose contracts are proved.
 ghost use Rattle.mu_model_record.specs.Laws.{CodedIsReadBack, CodeWordsAreCoded, CodedHasItsLength, OneOctetIsOnePair, PairsMakeACodeWord, ContentIsEveryFirst, PairOfOnesIsNoCodeWord, TornEraseFades, FadedHasNoNewWord, FadedIsSafe, WrittenPageHasItsWord, TornPageIsWholeOrDead, WrittenSlotHasItsWord, WrittenSlotIsSafe, TurnsOfAPage, TurnsOfASlot, SlotsOfAPage};
 ghost use Rattle.mu_model_record.specs.TurnLaws.{EraseLaws, WholePageLaws, SlotLaws, MarkLaw};
+ghost use Rattle.mu_model_record.specs.StoreLaws.{OctetsSpellOneRecord, WordIsOfOneRecord, PresentRecordIsOne, RepresentedStateIsOne, RepresentedIsPresent, OneThingIsFound, RepresentedIsFound, FreeRangeMayChange};
 
 /// Code words and their contents are one to one, and a pair of ones is in none.
 pub fn code_words()
@@ -45,4 +46,20 @@ pub fn turns()
     ensures page { WholePageLaws }
     ensures slot { SlotLaws }
     ensures mark { MarkLaw }
+{}
+
+/// Octets are those of one record.
+pub fn records()
+    ensures octets { OctetsSpellOneRecord }
+    ensures word { WordIsOfOneRecord }
+{}
+
+/// Octets of a flash have one present record, represent one state of a store, and are one of blank, foreign, damaged and a store, at most.
+pub fn stores()
+    ensures present { PresentRecordIsOne }
+    ensures state { RepresentedStateIsOne }
+    ensures represented { RepresentedIsPresent }
+    ensures found { OneThingIsFound }
+    ensures is_found { RepresentedIsFound }
+    ensures free { FreeRangeMayChange }
 {}
