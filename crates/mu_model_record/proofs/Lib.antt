@@ -6,6 +6,7 @@ pub mod PlaceLemmas
 pub mod ControlLemmas
 pub mod FrameLemmas
 pub mod NextLemmas
+pub mod FirstLemmas
 pub mod RecordLemmas
 pub mod ChangeLemmas
 pub mod KindLemmas

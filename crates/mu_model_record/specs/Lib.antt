@@ -10,5 +10,6 @@ pub mod Free
 pub mod Represents
 pub mod Kinds
 pub mod Next
+pub mod NextLaws
 pub mod Changes
 pub mod Laws

@@ -1,5 +1,5 @@
 -- What holds of the octets of a flash that has a store, or of which a boot finds something else.
-use Rattle.std.specs.Prelude.{◌≡◌, ℕ, ◌≤◌, List}
+use Rattle.std.specs.Prelude.{◌≡◌, ℕ, ◌≤◌, List, length}
 use Rattle.mu_model_flash.specs.Bits.{SameOutside}
 use Rattle.mu_model_record.specs.declared.Record.{Record}
 use Rattle.mu_model_record.specs.Page.{Word}
@@ -9,9 +9,9 @@ use Rattle.mu_model_record.specs.Represents.{RepresentsAt, RepresentsStore}
 use Rattle.mu_model_record.specs.Free.{IsFree}
 use Rattle.mu_model_record.specs.Kinds.{IsPresent, IsBlank, IsForeign, IsDamaged, IsStore}
 
--- octets spell one record at most
+-- octets spell one record of four entries at most
 abbrev pub OctetsSpellOneRecord : Type 0
-OctetsSpellOneRecord = (format : ℕ) (r s : Record) (octets : List ℕ) → IsRecord r → IsRecord s → IsSpelled format r octets → IsSpelled format s octets → r ≡ s
+OctetsSpellOneRecord = (format : ℕ) (r s : Record) (octets : List ℕ) → length r.banks ≡ 4 → length s.banks ≡ 4 → IsSpelled format r octets → IsSpelled format s octets → r ≡ s
 
 -- a word is of one record at most
 abbrev pub WordIsOfOneRecord : Type 0

@@ -1,6 +1,7 @@
 //! Laws of code words and control pages: functions that do nothing, whose contracts are proved.
 ghost use Rattle.mu_model_record.specs.Laws.{CodedIsReadBack, CodeWordsAreCoded, CodedHasItsLength, OneOctetIsOnePair, PairsMakeACodeWord, ContentIsEveryFirst, PairOfOnesIsNoCodeWord, TornEraseFades, FadedHasNoNewWord, FadedIsSafe, WrittenPageHasItsWord, TornPageIsWholeOrDead, WrittenSlotHasItsWord, WrittenSlotIsSafe, TurnsOfAPage, TurnsOfASlot, SlotsOfAPage};
 ghost use Rattle.mu_model_record.specs.TurnLaws.{EraseLaws, WholePageLaws, SlotLaws, MarkLaw};
+ghost use Rattle.mu_model_record.specs.NextLaws.{NextOnOtherPage, NextInNextSlot, FirstRecordLaws};
 ghost use Rattle.mu_model_record.specs.StoreLaws.{OctetsSpellOneRecord, WordIsOfOneRecord, PresentRecordIsOne, RepresentedStateIsOne, RepresentedIsPresent, OneThingIsFound, RepresentedIsFound, FreeRangeMayChange};
 
 /// Code words and their contents are one to one, and a pair of ones is in none.
@@ -62,4 +63,11 @@ pub fn stores()
     ensures found { OneThingIsFound }
     ensures is_found { RepresentedIsFound }
     ensures free { FreeRangeMayChange }
+{}
+
+/// Whatever the operations of a record leave of the control pages, whole or cut short, has the state before it or the state after it.
+pub fn next_records()
+    ensures other_page { NextOnOtherPage }
+    ensures next_slot { NextInNextSlot }
+    ensures first { FirstRecordLaws }
 {}
