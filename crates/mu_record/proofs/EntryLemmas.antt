@@ -9,10 +9,11 @@ use Rattle.mu_model_image.specs.declared.Meta.{Meta}
 use Rattle.mu_model_image.specs.Meta.{meta_octets, meta_from, IsMeta}
 use Rattle.mu_model_image.specs.Laws.{MetaIsReadBack}
 use Rattle.mu_model_flash.specs.Bits.{part_of, written}
-use Rattle.mu_model_flash.proofs.RangeLemmas.{length-part, get-part, range-part, part-written, part-outside, outside-written}
+use Rattle.mu_model_flash.specs.Laws.{WriteLaws}
 use Rattle.mu_model_record.specs.declared.BankState.{BankState}
 use Rattle.mu_model_record.specs.declared.BankState.TheVariants.{Empty, Filling, Sealed}
 use Rattle.mu_model_record.specs.Record.{zeros, IsEntry, IsFillingEntry, IsSealedEntry}
+use Rattle.mu_record.proofs.PartLemmas.{length-part, get-part, range-part}
 
 pub length-zeros : (n : ℕ) → length (zeros n) ≡ n
 unfolding zeros
@@ -98,17 +99,17 @@ weaker_none A B C None weak m = weak m
 weaker_none A B C (Some t) weak m = m
 
 -- one entry more is put
-pub put_entry : (banks : List BankState) (old entry : List ℕ) (b : ℕ) → length old ≡ 192 → length entry ≡ 48 → b < 4 → IsEntry (slice_index_or banks b Empty) entry
+pub put_entry : WriteLaws → (banks : List BankState) (old entry : List ℕ) (b : ℕ) → length old ≡ 192 → length entry ≡ 48 → b < 4 → IsEntry (slice_index_or banks b Empty) entry
     → ((k : ℕ) → k < b → IsEntry (slice_index_or banks k Empty) (part_of old (48 * k) 48))
     → (k : ℕ) → k < b + 1 → IsEntry (slice_index_or banks k Empty) (part_of (written old (48 * b) entry) (48 * k) 48)
-put_entry banks old entry b size fits few is before k lt = ⊎_elim
+put_entry writes banks old entry b size fits few is before k lt = ⊎_elim
     (λ below.
     subst (λ (l : List ℕ). IsEntry (slice_index_or banks k Empty) l)
-    (sym (part-outside old (written old (48 * b) entry) (48 * b) 48 (outside-written old (48 * b) 48 (omega (arith, size, few)) entry fits) (48 * k) 48 (inl (omega (arith, below))) (omega (arith, size, few, below))))
+    (sym (writes.part_outside old (written old (48 * b) entry) (48 * b) 48 (writes.outside_written old (48 * b) 48 (omega (arith, size, few)) entry fits) (48 * k) 48 (inl (omega (arith, below))) (omega (arith, size, few, below))))
     (before k below))
     (λ same.
     subst (λ (j : ℕ). IsEntry (slice_index_or banks j Empty) (part_of (written old (48 * b) entry) (48 * j) 48)) (sym same)
-    (subst (λ (l : List ℕ). IsEntry (slice_index_or banks b Empty) l) (sym (part-written old (48 * b) 48 (omega (arith, size, few)) entry fits)) is))
+    (subst (λ (l : List ℕ). IsEntry (slice_index_or banks b Empty) l) (sym (writes.part_written old (48 * b) 48 (omega (arith, size, few)) entry fits)) is))
     (split k b lt)
   where
     split : (k b : ℕ) → k < b + 1 → (k < b) ⊎ (k ≡ b)

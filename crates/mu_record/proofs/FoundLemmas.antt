@@ -1,41 +1,21 @@
 -- Words of the control pages, one after the other.
-use Rattle.std.proofs.Common.{Result, Ok, Err, cond, ◌≡◌, ◌⊎◌, inl, inr, ⊎_elim, ℕ, ◌+◌, ◌*◌, ◌<◌, ◌≤◌, Bool, true, false, IsTrue, Option, Some, None, List, ◌++◌, length, min, refl, sym, ◌∙◌, ap, subst, arith}
+use Rattle.std.proofs.Common.{cond, ◌≡◌, ◌⊎◌, inl, inr, ⊎_elim, ℕ, ◌+◌, ◌*◌, ◌<◌, ◌≤◌, Bool, true, false, IsTrue, Option, Some, None, List, ◌++◌, length, min, refl, sym, ◌∙◌, ap, subst, arith}
 use Rattle.std.specs.Prelude.{MatchOption, nat_lt, slice_index}
 use Rattle.std.proofs.lemmas.Bool.Decides.{nat_tests}
-use Rattle.mu_model_flash.specs.Cause.{Rose}
 use Rattle.mu_model_flash.specs.Flash.{Seen, Unchanged}
-use Rattle.mu_model_flash.proofs.Compose.{unchanged_on}
 use Rattle.mu_model_record.specs.declared.Record.{Record}
 use Rattle.mu_model_record.specs.Code.{IsCodeWord, content_of}
 use Rattle.mu_model_record.specs.Page.{page_of, slot_of, slot_in, IsLong, Word, page_word, slot_word}
 use Rattle.mu_model_record.specs.Record.{zeros, IsRecord, IsSpelled, IsWordOf}
-use Rattle.mu_model_record.proofs.PlaceLemmas.{slot-of-page}
+use Rattle.mu_model_record.specs.Laws.{SlotsOfAPage}
 use Rattle.mu_model_record.specs.Kinds.{HasWord, slot_of_word, NotBefore, IsBehind}
 use Rattle.mu_record.specs.declared.find.Found.{Found}
 use Rattle.mu_record.specs.declared.find.Found.TheVariants.{Blank, Foreign, Present}
-use Rattle.mu_record.specs.Reads.{ReadsOnly}
 use Rattle.mu_record.specs.Found.{found_with, IsFound, IsBefore, IsBest, FoundBefore, IsSoundFound}
 
 -- calls that read
-pub reads_failed : {T E : Type 0} (a c : Seen) (result : Result T E) → Unchanged a c → Rose a.faults c.faults → (IsTrue a.only_armed → c.off ≡ true) → ReadsOnly a c result
-reads_failed a c (Ok v) same rose off = record { same = same; cause = record { later = same.faults; failed = tt }; off = tt }
-reads_failed a c (Err e) same rose off = record { same = same; cause = record { later = same.faults; failed = rose }; off = off }
-
-pub reads_done : {T E : Type 0} (a c : Seen) (v : T) → Unchanged a c → ReadsOnly {T = T} {E = E} a c (Ok v)
-reads_done a c v same = record { same = same; cause = record { later = same.faults; failed = tt }; off = tt }
-
--- after calls that read
-pub then_failed : {T E : Type 0} (a b c : Seen) (result : Result T E) → Unchanged a b → Unchanged b c → Rose b.faults c.faults → (IsTrue b.only_armed → c.off ≡ true) → ReadsOnly a c result
-then_failed a b c result before same rose off =
-    reads_failed a c result (unchanged_on a b c before same) (omega (arith, before.faults, rose)) (λ only. off (subst (λ (x : Bool). IsTrue x) (sym before.only_armed) only))
-
-pub then_reads : {T E : Type 0} (a b c : Seen) (result : Result T E) → Unchanged a b → ReadsOnly b c result → ReadsOnly a c result
-then_reads a b c (Ok v) before reads = reads_done a c v (unchanged_on a b c before reads.same)
-then_reads a b c (Err e) before reads = then_failed a b c (Err e) before reads.same reads.cause.failed reads.off
-
--- the octets that are told are the same
-pub same_octets : (P : List ℕ → Type 0) (a b : Seen) → Unchanged a b → IsTrue a.told → P b.octets → P a.octets
-same_octets P a b same told p = subst P (same.octets told) p
+pub unchanged_same : (a : Seen) → Unchanged a a
+unchanged_same a = record { pages = refl; told = refl; octets = λ t. refl; clock = λ t. refl; left = λ t m c. (λ l. l, λ l. l); armed = refl; off = refl; only_armed = refl; faults = omega arith }
 
 pub still_told : (a b : Seen) → Unchanged a b → IsTrue a.told → IsTrue b.told
 still_told a b same told = subst (λ (x : Bool). IsTrue x) (sym same.told) told
@@ -212,9 +192,9 @@ pub match_some : {T : Type 0} (A : Type 0) (B : T → Type 0) (o : Option T) (t 
 match_some {T = T} A B o t m is = subst (λ (x : Option T). MatchOption x A B) is m
 
 -- one slot of a page that isn't long
-module _ (image : List ℕ) (page k : ℕ) (two : page < 2) (within : 4096 * page + 4096 ≤ length image) (few : k < 4) (first : IsCodeWord (slot_in (page_of image page) 0)) (short : ¬ IsLong (page_of image page)) (found : Found) (before : FoundBefore image page k found) where
+module _ (slots : SlotsOfAPage) (image : List ℕ) (page k : ℕ) (two : page < 2) (within : 4096 * page + 4096 ≤ length image) (few : k < 4) (first : IsCodeWord (slot_in (page_of image page) 0)) (short : ¬ IsLong (page_of image page)) (found : Found) (before : FoundBefore image page k found) where
   same : slot_in (page_of image page) k ≡ slot_of image page k
-  same = slot-of-page image page k within few
+  same = slots image page k within few
 
   pub slot_none : ¬ IsCodeWord (slot_of image page k) → FoundBefore image page (k + 1) found
   slot_none not =
@@ -249,9 +229,9 @@ sound_read (Present p s) page format octets (Some r) two is sound = by_test (nat
     by_test false = sound
 
 -- a page whose first slot is no code word, and a long page
-module _ (image : List ℕ) (page : ℕ) (two : page < 2) (within : 4096 * page + 4096 ≤ length image) (found : Found) (before : FoundBefore image page 0 found) where
+module _ (slots : SlotsOfAPage) (image : List ℕ) (page : ℕ) (two : page < 2) (within : 4096 * page + 4096 ≤ length image) (found : Found) (before : FoundBefore image page 0 found) where
   first_same : slot_in (page_of image page) 0 ≡ slot_of image page 0
-  first_same = slot-of-page image page 0 within (omega arith)
+  first_same = slots image page 0 within (omega arith)
 
   pub page_none : ¬ IsCodeWord (slot_of image page 0) → FoundBefore image page 4 found
   page_none not = found_none image page 0 4 (omega arith) found (λ v has ge lt. no_first image page (λ is. not (subst (λ (s : List ℕ). IsCodeWord s) first_same is)) v has) before

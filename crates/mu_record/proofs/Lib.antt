@@ -1,3 +1,5 @@
+pub mod PartLemmas
+pub mod RunLemmas
 pub mod EntryLemmas
 pub mod SpellLemmas
 pub mod WriteLemmas

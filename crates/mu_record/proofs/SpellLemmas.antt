@@ -9,11 +9,12 @@ use Rattle.mu_model_record.specs.declared.BankState.{BankState}
 use Rattle.mu_model_record.specs.declared.BankState.TheVariants.{Empty, Filling, Sealed}
 use Rattle.mu_record.specs.Ranges.{IsInRange, AreInRange, HasOneFilling, HasRanges}
 use Rattle.mu_model_flash.specs.Bits.{AreOctets, part_of, written, SameOutside}
-use Rattle.mu_model_flash.proofs.RangeLemmas.{length-part, get-part, part-written, part-outside, outside-written}
+use Rattle.mu_model_flash.specs.Laws.{WriteLaws}
 use Rattle.mu_model_record.specs.declared.Record.{Record}
 use Rattle.mu_model_record.specs.Record.{zeros, IsEntry, entry_of, IsSpelled, IsEntryInRange, IsFilling, IsRecord}
 use Rattle.mu_record.specs.Entries.{AreEntries}
 use Rattle.mu_record.specs.Header.{header_of}
+use Rattle.mu_record.proofs.PartLemmas.{length-part, get-part}
 use Rattle.mu_record.proofs.EntryLemmas.{length-zeros, get-zeros}
 
 -- a part of a part
@@ -135,7 +136,7 @@ module _ (format : ℕ) (r : Record) (octets : List ℕ) (small : AreOctets octe
         tag_small i (inr le) = subst (λ (x : ℕ). x < 256) (sym (get_or_past (part_of octets 256 1792) i 0 (omega (arith, length-part octets 256 1792 (omega (arith, spelled.whole)), le)))) (omega arith)
 
 -- a record that was put there
-module _ (format : ℕ) (r : Record) (head entries : List ℕ) (head_is : head ≡ header_of format r) (head_size : length head ≡ 16) (banks_are : AreEntries r.banks entries) (banks_size : length entries ≡ 192) (tag_size : length r.tag ≡ 1792) where
+module _ (writes : WriteLaws) (format : ℕ) (r : Record) (head entries : List ℕ) (head_is : head ≡ header_of format r) (head_size : length head ≡ 16) (banks_are : AreEntries r.banks entries) (banks_size : length entries ≡ 192) (tag_size : length r.tag ≡ 1792) where
   first : List ℕ
   first = written (zeros 2048) 0 head
 
@@ -150,31 +151,31 @@ module _ (format : ℕ) (r : Record) (head entries : List ℕ) (head_is : head �
 
   out_first : SameOutside 0 16 (zeros 2048) first
   unfolding first
-  out_first = outside-written (zeros 2048) 0 16 (omega (arith, size)) head head_size
+  out_first = writes.outside_written (zeros 2048) 0 16 (omega (arith, size)) head head_size
 
   out_second : SameOutside 16 192 first second
   unfolding second
-  out_second = outside-written first 16 192 (omega (arith, size, out_first.size)) entries banks_size
+  out_second = writes.outside_written first 16 192 (omega (arith, size, out_first.size)) entries banks_size
 
   out_third : SameOutside 256 1792 second third
   unfolding third
-  out_third = outside-written second 256 1792 (omega (arith, size, out_first.size, out_second.size)) r.tag tag_size
+  out_third = writes.outside_written second 256 1792 (omega (arith, size, out_first.size, out_second.size)) r.tag tag_size
 
   laid : IsLaid format r third
   unfolding first second third
   laid = record {
     size = out_third.size ∙ out_second.size ∙ out_first.size ∙ size;
-    head = part-outside second third 256 1792 out_third 0 16 (inl (omega arith)) (omega (arith, size, out_first.size, out_second.size))
-        ∙ part-outside first second 16 192 out_second 0 16 (inl (omega arith)) (omega (arith, size, out_first.size))
-        ∙ part-written (zeros 2048) 0 16 (omega (arith, size)) head head_size ∙ head_is;
+    head = writes.part_outside second third 256 1792 out_third 0 16 (inl (omega arith)) (omega (arith, size, out_first.size, out_second.size))
+        ∙ writes.part_outside first second 16 192 out_second 0 16 (inl (omega arith)) (omega (arith, size, out_first.size))
+        ∙ writes.part_written (zeros 2048) 0 16 (omega (arith, size)) head head_size ∙ head_is;
     banks = subst (λ (l : List ℕ). AreEntries r.banks l)
-        (sym (part-outside second third 256 1792 out_third 16 192 (inl (omega arith)) (omega (arith, size, out_first.size, out_second.size))
-        ∙ part-written first 16 192 (omega (arith, size, out_first.size)) entries banks_size)) banks_are;
-    gap = part-outside second third 256 1792 out_third 208 48 (inl (omega arith)) (omega (arith, size, out_first.size, out_second.size))
-        ∙ part-outside first second 16 192 out_second 208 48 (inr (omega arith)) (omega (arith, size, out_first.size))
-        ∙ part-outside (zeros 2048) first 0 16 out_first 208 48 (inr (omega arith)) (omega (arith, size))
+        (sym (writes.part_outside second third 256 1792 out_third 16 192 (inl (omega arith)) (omega (arith, size, out_first.size, out_second.size))
+        ∙ writes.part_written first 16 192 (omega (arith, size, out_first.size)) entries banks_size)) banks_are;
+    gap = writes.part_outside second third 256 1792 out_third 208 48 (inl (omega arith)) (omega (arith, size, out_first.size, out_second.size))
+        ∙ writes.part_outside first second 16 192 out_second 208 48 (inr (omega arith)) (omega (arith, size, out_first.size))
+        ∙ writes.part_outside (zeros 2048) first 0 16 out_first 208 48 (inr (omega arith)) (omega (arith, size))
         ∙ zeros_part 2048 208 48 (omega arith);
-    tag = part-written second 256 1792 (omega (arith, size, out_first.size, out_second.size)) r.tag tag_size;
+    tag = writes.part_written second 256 1792 (omega (arith, size, out_first.size, out_second.size)) r.tag tag_size;
   }
 
   pub put_spelled : r.pages < 2 ^ 16 → r.count < 2 ^ 32 → (a b c : List ℕ) → a ≡ written (zeros 2048) 0 head → b ≡ written a 16 entries → c ≡ written b 256 r.tag → IsSpelled format r c

@@ -4,13 +4,9 @@ use Rattle.std.specs.Prelude.{bytes_eq, nat_lt, MatchResult}
 use Rattle.std.proofs.lemmas.Bool.Decides.{nat_tests}
 use Rattle.std.proofs.lemmas.List.{ext_get_or, take-append-drop, take_all, drop-drop, length-drop}
 use Rattle.std.proofs.lemmas.Slice.Eq.{bytes_eq-Decides}
-use Rattle.mu_model_flash.specs.Bits.{AreOctets, blank, written, part_of, SameOutside}
+use Rattle.mu_model_flash.specs.Bits.{blank, written, part_of, SameOutside}
 use Rattle.mu_model_flash.specs.Flash.{Seen, IsSound}
 use Rattle.mu_model_flash.specs.Run.{either, exact, Ran, Broke}
-use Rattle.mu_model_flash.proofs.BitLemmas.{length-blank, get-blank}
-use Rattle.mu_model_flash.proofs.RangeLemmas.{length-part, get-part, part-written, part-outside, outside-written}
-use Rattle.mu_model_flash.proofs.Compose.{told_on}
-use Rattle.mu_model_flash.proofs.Readings.{ran_as, broke_as}
 use Rattle.mu_model_record.specs.declared.Record.{Record}
 use Rattle.mu_model_record.specs.Code.{coded}
 use Rattle.mu_model_record.specs.Page.{page_of, slot_in, slot_of, slot_place, Word, slot_word, page_word, IsSafePage}
@@ -19,9 +15,12 @@ use Rattle.mu_model_record.specs.Record.{zeros, IsSpelled, IsShort}
 use Rattle.mu_model_record.specs.Store.{StoreState}
 use Rattle.mu_model_record.specs.Represents.{RepresentsAt, RepresentsStore, IsFollowedBy}
 use Rattle.mu_model_record.specs.Next.{IsNext, is_short, record_steps}
-use Rattle.mu_model_record.proofs.CodeLemmas.{length-coded}
-use Rattle.mu_model_record.proofs.PlaceLemmas.{slot-of-page}
-use Rattle.mu_model_record.proofs.NextLemmas.{page_outside, slot_outside, next_reads, next_after, erase_reads, erased, erased_blank, erased_next, long_reads, long_after, first_reads, first_after, other_safe}
+use Rattle.mu_model_flash.specs.Laws.{WriteLaws, RunsAreRead}
+use Rattle.mu_model_record.specs.Laws.{CodedHasItsLength, SlotsOfAPage}
+use Rattle.mu_model_record.specs.NextLaws.{IsLongContent, IsShortContent, OtherPageLaws, NextOnOtherPage, NextSlotLaws, NextInNextSlot}
+use Rattle.mu_model_record.specs.Ways.{as_store, page_erase, page_write, slot_write, StateOf, reading_of}
+use Rattle.mu_record.proofs.PartLemmas.{length-part, get-part, length-blank, get-blank}
+use Rattle.mu_record.proofs.RunLemmas.{told_on}
 use Rattle.mu_model_flash.specs.declared.Failed.{Failed}
 use Rattle.mu_record.specs.declared.write.Place.{Place}
 use Rattle.mu_record.specs.Place.{HoldsAt, WritesNext}
@@ -87,137 +86,136 @@ next_steps r fresh short some d e is =
     let t : nat_lt 0 fresh ≡ true = grind (arith, nat_tests) in
     (λ i. cond (sym (ap is_short is ∙ short) i && sym t i) (e ∷ []) (d ∷ e ∷ []))
 
+-- a page or a slot lies on the control pages
+page_outside : (q : ℕ) (old c : List ℕ) → q < 2 → SameOutside (4096 * q) 4096 old c → SameOutside 0 8192 old c
+page_outside q old c two out = record { size = out.size; before = λ i lt. absurd (omega (arith, lt)); after = λ i le. out.after i (omega (arith, le, two)) }
+
+slot_outside : (q k : ℕ) (old c : List ℕ) → q < 2 → k < 4 → SameOutside (slot_place q k) 1024 old c → SameOutside 0 8192 old c
+slot_outside q k old c two few out = record { size = out.size; before = λ i lt. absurd (omega (arith, lt)); after = λ i le. out.after i (omega (arith, le, two, few)) }
+
 -- what an operation leaves of all else
 module _ (a c : Seen) (sound : IsSound a) (both : 2 ≤ a.pages) (page : ℕ) (two : page < 2) where
   pub page_within : IsTrue a.told → 4096 * page + 4096 ≤ length a.octets
   page_within told = omega (arith, (sound.is_image told).size, both, two)
 
-  pub fresh_slot : (fresh k : ℕ) → (IsTrue a.told → IsFollowedBy page fresh a.octets) → 4 ≤ k + fresh → k < 4 → IsTrue a.told → slot_of a.octets page k ≡ blank 1024
-  fresh_slot fresh k is_blank le lt told = sym (slot-of-page a.octets page k (page_within told) lt) ∙ is_blank told k le lt
+  pub fresh_slot : SlotsOfAPage → (fresh k : ℕ) → (IsTrue a.told → IsFollowedBy page fresh a.octets) → 4 ≤ k + fresh → k < 4 → IsTrue a.told → slot_of a.octets page k ≡ blank 1024
+  fresh_slot slots fresh k is_blank le lt told = sym (slots a.octets page k (page_within told) lt) ∙ is_blank told k le lt
 
-  module _ (k : ℕ) (few : k < 4) (bytes : List ℕ) (whole : length bytes ≡ 512) (ran : Ran exact a.octets (written a.octets (slot_place page k) (coded bytes) ∷ []) a c) (told : IsTrue a.told) where
+  module _ (writes : WriteLaws) (length-coded : CodedHasItsLength) (k : ℕ) (few : k < 4) (bytes : List ℕ) (whole : length bytes ≡ 512) (ran : Ran exact a.octets (written a.octets (slot_place page k) (coded bytes) ∷ []) a c) (told : IsTrue a.told) where
     pub slot_stays : SameOutside (slot_place page k) 1024 a.octets c.octets
     slot_stays =
         let code : length (coded bytes) ≡ 1024 = omega (arith, length-coded bytes, whole) in
-        subst (λ (o : List ℕ). SameOutside (slot_place page k) 1024 a.octets o) (sym (ran.ends told)) (outside-written a.octets (slot_place page k) 1024 (omega (arith, page_within told, few)) (coded bytes) code)
+        subst (λ (o : List ℕ). SameOutside (slot_place page k) 1024 a.octets o) (sym (ran.ends told)) (writes.outside_written a.octets (slot_place page k) 1024 (omega (arith, page_within told, few)) (coded bytes) code)
 
     pub slot_past : SameOutside 0 8192 a.octets c.octets
     slot_past = slot_outside page k a.octets c.octets two few slot_stays
 
-    pub others_blank : (fresh : ℕ) → IsFollowedBy page fresh a.octets → k < 4 - (fresh - 1) → IsFollowedBy page (fresh - 1) c.octets
-    others_blank fresh is_blank low j le lt =
+    pub others_blank : SlotsOfAPage → (fresh : ℕ) → IsFollowedBy page fresh a.octets → k < 4 - (fresh - 1) → IsFollowedBy page (fresh - 1) c.octets
+    others_blank slots fresh is_blank low j le lt =
         let out = slot_stays in
         let there : 4096 * page + 4096 ≤ length c.octets = omega (arith, page_within told, out.size) in
-        slot-of-page c.octets page j there lt
-        ∙ part-outside a.octets c.octets (slot_place page k) 1024 out (slot_place page j) 1024 (inr (omega (arith, le, low, lt))) (omega (arith, page_within told, lt))
-        ∙ sym (slot-of-page a.octets page j (page_within told) lt)
+        slots c.octets page j there lt
+        ∙ writes.part_outside a.octets c.octets (slot_place page k) 1024 out (slot_place page j) 1024 (inr (omega (arith, le, low, lt))) (omega (arith, page_within told, lt))
+        ∙ sym (slots a.octets page j (page_within told) lt)
         ∙ is_blank j (omega (arith, le)) lt
 
-  module _ (ran : Ran exact a.octets (written a.octets (4096 * page) (blank 4096) ∷ []) a c) (told : IsTrue a.told) where
+  module _ (writes : WriteLaws) (ran : Ran exact a.octets (written a.octets (4096 * page) (blank 4096) ∷ []) a c) (told : IsTrue a.told) where
     erased_stays : SameOutside (4096 * page) 4096 a.octets c.octets
-    erased_stays = subst (λ (o : List ℕ). SameOutside (4096 * page) 4096 a.octets o) (sym (ran.ends told)) (outside-written a.octets (4096 * page) 4096 (page_within told) (blank 4096) (length-blank 4096))
+    erased_stays = subst (λ (o : List ℕ). SameOutside (4096 * page) 4096 a.octets o) (sym (ran.ends told)) (writes.outside_written a.octets (4096 * page) 4096 (page_within told) (blank 4096) (length-blank 4096))
 
     pub erased_past : SameOutside 0 8192 a.octets c.octets
     erased_past = page_outside page a.octets c.octets two erased_stays
 
     pub erased_followed : IsFollowedBy page 4 c.octets
     erased_followed k le lt =
-        blank_slots (page_of c.octets page) (ap (λ (o : List ℕ). page_of o page) (ran.ends told) ∙ part-written a.octets (4096 * page) 4096 (page_within told) (blank 4096) (length-blank 4096)) k lt
+        blank_slots (page_of c.octets page) (ap (λ (o : List ℕ). page_of o page) (ran.ends told) ∙ writes.part_written a.octets (4096 * page) 4096 (page_within told) (blank 4096) (length-blank 4096)) k lt
 
-module _ (a c : Seen) (page fresh : ℕ) (d e : StoreState) (holds : HoldsAt a page fresh d) (next : IsNext a.octets d e) where
-  -- in the next slot
-  module _ (some : 0 < fresh) (few : fresh < 4) (octets : List ℕ) (many : length octets ≡ 512) (small : AreOctets octets) (spells : IsSpelled 2 e.present (octets ++ zeros 1536)) where
-    slot : ℕ
-    slot = 3 - fresh
-
-    slot_next : slot + 1 ≡ 4 - fresh
-    unfolding slot
+-- the record in the next slot, and on the other page
+module _ (a c : Seen) (reads : RunsAreRead StateOf reading_of a c) (page fresh : ℕ) (d e : StoreState) (holds : HoldsAt a page fresh d) (next : IsNext a.octets d e) where
+  module _ (law : NextInNextSlot) (some : 0 < fresh) (few : fresh < 4) (octets : List ℕ) (is : IsShortContent e.present octets) where
+    slot_next : 3 - fresh + 1 ≡ 4 - fresh
     slot_next = omega (arith, some, few)
 
     content : List ℕ
     content = (holds.is_before some).0
 
-    at_slot : RepresentsAt page (slot_word slot content) d a.octets
-    unfolding slot content
+    at_slot : RepresentsAt page (slot_word (3 - fresh) content) d a.octets
+    unfolding content
     at_slot = subst (λ (w : Word). RepresentsAt page w d a.octets) (holds.is_before some).1 holds.represents
 
-    fits : slot + 1 < 4
-    unfolding slot
-    fits = omega (arith, some)
+    laws : NextSlotLaws page (3 - fresh) content d e a.octets
+    laws = law page (3 - fresh) content d e a.octets at_slot next (omega (arith, some, few))
 
     pub next_ran : Ran (either (SlotTurns a.octets page (4 - fresh) octets)) before (after ∷ []) a c → Ran (either RepresentsStore) d (e ∷ []) a c × HoldsAt c page (fresh - 1) e
-    unfolding slot content slot_next fits
     next_ran ran =
         let here = subst (λ (k : ℕ). Ran (either (SlotTurns a.octets page k octets)) before (after ∷ []) a c) (sym slot_next) ran in
-        let same : 3 - (fresh - 1) ≡ 3 - fresh + 1 = omega (arith, some, few) in (
-          ran_as _ _ before (after ∷ []) d (e ∷ []) a c refl (λ told. next_reads page (3 - fresh) content d e a.octets at_slot next fits octets many small spells) here,
+        let same : 3 - fresh + 1 ≡ 3 - (fresh - 1) = omega (arith, some, few) in (
+          reads.ran (slot_write a.octets page (3 - fresh + 1) octets) as_store before (after ∷ []) d (e ∷ []) refl (λ told. laws.short octets is) here,
           record {
             told = told_on a c ran.keeps holds.told;
             on = ran.on;
             word = slot_word (3 - fresh + 1) octets;
-            represents = next_after page (3 - fresh) content d e a.octets at_slot next fits octets many small spells c.octets (here.ends holds.told);
-            is_before = λ more. (octets, ap (λ (k : ℕ). slot_word k octets) (sym same));
+            represents = laws.short_after octets is c.octets (here.ends holds.told);
+            is_before = λ more. (octets, ap (λ (k : ℕ). slot_word k octets) same);
           },
         )
 
     pub next_broke : Broke (either (SlotTurns a.octets page (4 - fresh) octets)) before (after ∷ []) a c → Broke (either RepresentsStore) d (e ∷ []) a c
-    unfolding slot content slot_next fits
     next_broke broke =
         let here = subst (λ (k : ℕ). Broke (either (SlotTurns a.octets page k octets)) before (after ∷ []) a c) (sym slot_next) broke in
-        broke_as _ _ before (after ∷ []) d (e ∷ []) a c refl (λ told. next_reads page (3 - fresh) content d e a.octets at_slot next fits octets many small spells) here
+        reads.broke (slot_write a.octets page (3 - fresh + 1) octets) as_store before (after ∷ []) d (e ∷ []) refl (λ told. laws.short octets is) here
 
   -- on the other page
-  module _ (other : ℕ) (two : other + page ≡ 1) where
-    pub safe : IsSafePage (page_of a.octets other)
-    safe = other_safe page other two holds.word d e a.octets holds.represents
+  module _ (law : NextOnOtherPage) (other : ℕ) (two : other + page ≡ 1) where
+    other_laws : OtherPageLaws page other holds.word d e a.octets
+    other_laws = law page other two holds.word d e a.octets holds.represents next
 
-    module _ (octets : List ℕ) (many : length octets ≡ 2048) (small : AreOctets octets) (spells : IsSpelled 1 e.present octets) where
+    pub safe : IsSafePage (page_of a.octets other)
+    safe = other_laws.safe
+
+    module _ (octets : List ℕ) (is : IsLongContent e.present octets) where
       pub long_ran : Ran (either (PageTurns a.octets other octets)) before (before ∷ after ∷ []) a c → Ran (either RepresentsStore) d (d ∷ e ∷ []) a c × HoldsAt c other 0 e
       long_ran ran = (
-        ran_as _ _ before (before ∷ after ∷ []) d (d ∷ e ∷ []) a c refl (λ told. long_reads page other two holds.word d e a.octets holds.represents next octets many small spells) ran,
+        reads.ran (page_write a.octets other octets) as_store before (before ∷ after ∷ []) d (d ∷ e ∷ []) refl (λ told. other_laws.long octets is) ran,
         record {
           told = told_on a c ran.keeps holds.told;
           on = ran.on;
           word = page_word octets;
-          represents = long_after page other two holds.word d e a.octets holds.represents next octets many small spells c.octets (ran.ends holds.told);
+          represents = other_laws.long_after octets is c.octets (ran.ends holds.told);
           is_before = λ some. absurd (omega (arith, some));
         },
       )
 
       pub long_broke : Broke (either (PageTurns a.octets other octets)) before (before ∷ after ∷ []) a c → Broke (either RepresentsStore) d (d ∷ e ∷ []) a c
-      long_broke broke = broke_as _ _ before (before ∷ after ∷ []) d (d ∷ e ∷ []) a c refl (λ told. long_reads page other two holds.word d e a.octets holds.represents next octets many small spells) broke
+      long_broke broke = reads.broke (page_write a.octets other octets) as_store before (before ∷ after ∷ []) d (d ∷ e ∷ []) refl (λ told. other_laws.long octets is) broke
 
     -- which is erased first
     pub erase_broke : Broke (either (PageErases a.octets other)) before (after ∷ []) a c → Broke (either RepresentsStore) d (d ∷ []) a c
-    erase_broke broke = broke_as _ _ before (after ∷ []) d (d ∷ []) a c refl (λ told. erase_reads page other two holds.word d e a.octets holds.represents next) broke
+    erase_broke broke = reads.broke (page_erase a.octets other) as_store before (after ∷ []) d (d ∷ []) refl (λ told. other_laws.erase) broke
 
     pub erase_ran : Ran (either (PageErases a.octets other)) before (after ∷ []) a c → Ran (either RepresentsStore) d (d ∷ []) a c
-    erase_ran ran = ran_as _ _ before (after ∷ []) d (d ∷ []) a c refl (λ told. erase_reads page other two holds.word d e a.octets holds.represents next) ran
+    erase_ran ran = reads.ran (page_erase a.octets other) as_store before (after ∷ []) d (d ∷ []) refl (λ told. other_laws.erase) ran
 
-    module _ (ran : Ran (either (PageErases a.octets other)) before (after ∷ []) a c) where
-      pub erased_holds : RepresentsAt page holds.word d c.octets
-      erased_holds = erased page other two holds.word d e a.octets holds.represents next c.octets (ran.ends holds.told)
-
-      pub erased_is_next : IsNext c.octets d e
-      erased_is_next = erased_next page other two holds.word d e a.octets holds.represents next c.octets (ran.ends holds.told)
-
-      pub erased_is_blank : page_of c.octets other ≡ blank 4096
-      erased_is_blank = erased_blank page other two holds.word d e a.octets holds.represents next c.octets (ran.ends holds.told)
+    pub erased_first : Ran (either (PageErases a.octets other)) before (after ∷ []) a c → RepresentsAt page holds.word d c.octets × IsNext c.octets d e × (page_of c.octets other ≡ blank 4096)
+    erased_first ran = other_laws.erased c.octets (ran.ends holds.told)
 
 -- the first slot of the other page, which is erased
-module _ (b c : Seen) (page other : ℕ) (two : other + page ≡ 1) (word : Word) (d e : StoreState) (told : IsTrue b.told) (at : RepresentsAt page word d b.octets) (next : IsNext b.octets d e) (is_blank : page_of b.octets other ≡ blank 4096)
-    (octets : List ℕ) (many : length octets ≡ 512) (small : AreOctets octets) (spells : IsSpelled 2 e.present (octets ++ zeros 1536)) where
+module _ (law : NextOnOtherPage) (b c : Seen) (reads : RunsAreRead StateOf reading_of b c) (page other : ℕ) (two : other + page ≡ 1) (word : Word) (d e : StoreState) (told : IsTrue b.told)
+    (erased : RepresentsAt page word d b.octets × IsNext b.octets d e × (page_of b.octets other ≡ blank 4096)) (octets : List ℕ) (is : IsShortContent e.present octets) where
+  first_laws : OtherPageLaws page other word d e b.octets
+  first_laws = law page other two word d e b.octets erased.0 erased.1
+
   pub first_ran : Ran (either (SlotTurns b.octets other 0 octets)) before (after ∷ []) b c → Ran (either RepresentsStore) d (e ∷ []) b c × HoldsAt c other 3 e
   first_ran ran = (
-    ran_as _ _ before (after ∷ []) d (e ∷ []) b c refl (λ t. first_reads page other two word d e b.octets at next is_blank (blank_slots (page_of b.octets other) is_blank) octets many small spells) ran,
+    reads.ran (slot_write b.octets other 0 octets) as_store before (after ∷ []) d (e ∷ []) refl (λ t. first_laws.short erased.2 octets is) ran,
     record {
       told = told_on b c ran.keeps told;
       on = ran.on;
       word = slot_word 0 octets;
-      represents = first_after page other two word d e b.octets at next is_blank (blank_slots (page_of b.octets other) is_blank) octets many small spells c.octets (ran.ends told);
+      represents = first_laws.short_after erased.2 octets is c.octets (ran.ends told);
       is_before = λ some. (octets, refl);
     },
   )
 
   pub first_broke : Broke (either (SlotTurns b.octets other 0 octets)) before (after ∷ []) b c → Broke (either RepresentsStore) d (e ∷ []) b c
-  first_broke broke = broke_as _ _ before (after ∷ []) d (e ∷ []) b c refl (λ t. first_reads page other two word d e b.octets at next is_blank (blank_slots (page_of b.octets other) is_blank) octets many small spells) broke
+  first_broke broke = reads.broke (slot_write b.octets other 0 octets) as_store before (after ∷ []) d (e ∷ []) refl (λ t. first_laws.short erased.2 octets is) broke

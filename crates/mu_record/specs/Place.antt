@@ -38,10 +38,6 @@ WritesNext old new page fresh r steps result =
     (λ place. Ran (either RepresentsStore) d (steps d e) old new × HoldsAt new place.page place.fresh e)
     (λ _. Broke (either RepresentsStore) d (steps d e) old new)
 
--- whatever the octets are
-abbrev pub Anything : Unit {0} → List ℕ → Type 0
-Anything here c = Unit {0}
-
 -- the control pages of a flash whose one record is this, before so many fresh slots
 pub record IsFirst (r : Record) (fresh : ℕ) (octets : List ℕ) : Type 0 where
   pub word : Word

@@ -10,6 +10,7 @@ ghost use Rattle.mu_record.specs.Entries.{AreEntries, IsSealable};
 
 use byteorder::{ByteOrder, LittleEndian};
 use mu_image::{meta_from, meta_octets};
+use mu_model_flash::laws::ranges_of_octets;
 use mu_model_image::{Meta, laws};
 use mu_model_record::BankState;
 
@@ -72,6 +73,7 @@ pub(crate) fn entries_octets(banks: &[BankState; 4]) -> [u8; 192]
     requires { (b : ℕ) → b < 4 → IsSealable (slice_index_or banks.now b Empty) }
     ensures { AreEntries banks.now result }
 {
+    ranges_of_octets();
     let mut octets = [0; 4 * ENTRY];
     for b in 0..4usize {
         let entry = entry_octets(&banks[b]);

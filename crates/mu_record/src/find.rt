@@ -9,8 +9,10 @@ ghost use Rattle.mu_record.specs.Reads.{ReadsOnly};
 
 use crate::entry::put;
 use crate::octets::{no_octets, record_from};
-use mu_cells::{read_page, read_slot};
+use mu_cells::{Ways, read_page, read_slot};
+use mu_model_flash::laws::runs;
 use mu_model_record::Record;
+use mu_model_record::laws::pages_of_a_flash;
 use mu_outside::{Failed, Flash};
 
 const LONG: u8 = 1;
@@ -73,6 +75,8 @@ fn scan_slots<F: Flash>(flash: &mut F, page: u32, before: Found) -> Result<Found
     ensures sound { IfOk result IsSoundFound }
     ensures reads { ReadsOnly (F.seen flash.old) (F.seen flash.new) result }
 {
+    runs::<Ways<F>>();
+    pages_of_a_flash();
     let mut found = before;
     for slot in 0..4u8 {
         if let Some(octets) = read_slot(flash, page, slot)? {
@@ -93,6 +97,7 @@ fn scan_page<F: Flash>(flash: &mut F, page: u32, before: Found) -> Result<Found,
     ensures on { OnOk result ((F.seen flash.old).off ≡ false) }
     ensures reads { ReadsOnly (F.seen flash.old) (F.seen flash.new) result }
 {
+    pages_of_a_flash();
     let Some(first) = read_slot(flash, page, 0)? else {
         return Ok(before);
     };
@@ -113,6 +118,7 @@ pub fn find_present<F: Flash>(flash: &mut F) -> Result<Found, Failed>
     ensures on { 0 < (F.seen flash.old).pages → OnOk result ((F.seen flash.old).off ≡ false) }
     ensures reads { ReadsOnly (F.seen flash.old) (F.seen flash.new) result }
 {
+    runs::<Ways<F>>();
     let mut found = Found::Blank;
     let pages = flash.pages().min(2);
     for page in 0..pages {

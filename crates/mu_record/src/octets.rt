@@ -8,7 +8,9 @@ ghost use Rattle.mu_record.specs.Header.{header_of};
 use crate::entry::{ENTRY, entries_from, entries_octets, is_zero, put};
 use crate::ranges::has_ranges;
 use byteorder::{ByteOrder, LittleEndian};
+use mu_model_flash::laws::ranges_of_octets;
 use mu_model_image::laws;
+use mu_model_record::laws::records;
 use mu_model_record::{Record, Tag};
 
 const NAME: [u8; 4] = [0x4D, 0x55, 0x46, 0x31];
@@ -42,6 +44,7 @@ pub fn record_octets(fields: &Record, format: u8) -> [u8; 2048]
     ensures spelled { IsSpelled format fields.now result }
     ensures small { AreOctets result }
 {
+    ranges_of_octets();
     let mut octets = no_octets();
     put(&mut octets, 0, &header_octets(fields, format));
     put(&mut octets, HEADER, &entries_octets(&fields.banks));
@@ -85,6 +88,7 @@ pub fn record_from(octets: &[u8; 2048], format: u8) -> Option<Record>
     ensures { MatchOption result ((r : Record) → IsRecord r → ¬ IsSpelled format r octets.now) (λ r. IsSpelled format r octets.now × IsRecord r) }
 {
     laws::metadata();
+    records();
     if !is_framed(octets, format) {
         return None;
     }

@@ -5,12 +5,15 @@ ghost use Rattle.mu_model_flash.specs.Cause.{HasCause};
 ghost use Rattle.mu_model_flash.specs.Run.{either, Keeps, Runs};
 ghost use Rattle.mu_model_record.specs.Record.{zeros, IsRecord, IsSpelled, IsShort};
 ghost use Rattle.mu_model_record.specs.Next.{is_short, record_steps, fresh_after};
-ghost use Rattle.mu_record.specs.Place.{Anything, IsFirst, IsPlace, WritesNext, StaysPast};
+ghost use Rattle.mu_model_record.specs.Turns.{Anything};
+ghost use Rattle.mu_record.specs.Place.{IsFirst, IsPlace, WritesNext, StaysPast};
 
 use crate::entry::is_zero;
 use crate::octets::record_octets;
-use mu_cells::{erase_page, write_page, write_slot};
+use mu_cells::{Ways, erase_page, write_page, write_slot};
+use mu_model_flash::laws::{ranges_of_octets, runs};
 use mu_model_record::Record;
+use mu_model_record::laws::{code_words, next_records, pages_of_a_flash};
 use mu_outside::{Failed, Flash};
 
 const LONG: u8 = 1;
@@ -67,6 +70,11 @@ fn write_next<F: Flash>(flash: &mut F, place: Place, fields: &Record) -> Result<
     ensures runs { WritesNext (F.seen flash.old) (F.seen flash.new) place.page place.fresh fields.now (λ d e. e ∷ []) result }
     ensures cause { HasCause (F.seen flash.old).faults (F.seen flash.new).faults result }
 {
+    ranges_of_octets();
+    runs::<Ways<F>>();
+    code_words();
+    pages_of_a_flash();
+    next_records();
     write_slot(flash, place.page, SLOTS - place.fresh, &slot_octets(fields))?;
     Ok(Place {
         page: place.page,
@@ -86,6 +94,11 @@ fn write_first<F: Flash>(flash: &mut F, place: Place, fields: &Record) -> Result
     ensures runs { WritesNext (F.seen flash.old) (F.seen flash.new) place.page place.fresh fields.now (λ d e. d ∷ e ∷ []) result }
     ensures cause { HasCause (F.seen flash.old).faults (F.seen flash.new).faults result }
 {
+    ranges_of_octets();
+    runs::<Ways<F>>();
+    code_words();
+    pages_of_a_flash();
+    next_records();
     let page = 1 - place.page;
     erase_page(flash, page)?;
     write_slot(flash, page, 0, &slot_octets(fields))?;
@@ -103,6 +116,8 @@ fn write_long<F: Flash>(flash: &mut F, place: Place, fields: &Record) -> Result<
     ensures runs { WritesNext (F.seen flash.old) (F.seen flash.new) place.page place.fresh fields.now (λ d e. d ∷ e ∷ []) result }
     ensures cause { HasCause (F.seen flash.old).faults (F.seen flash.new).faults result }
 {
+    runs::<Ways<F>>();
+    next_records();
     let page = 1 - place.page;
     write_page(flash, page, &record_octets(fields, LONG))?;
     Ok(Place { page, fresh: 0 })
@@ -142,6 +157,11 @@ fn write_short_anew<F: Flash>(flash: &mut F, fields: &Record) -> Result<(), Fail
     ensures runs { Runs (either Anything) tt (tt ∷ tt ∷ tt ∷ []) (F.seen flash.old) (F.seen flash.new) result }
     ensures cause { HasCause (F.seen flash.old).faults (F.seen flash.new).faults result }
 {
+    ranges_of_octets();
+    runs::<Ways<F>>();
+    code_words();
+    pages_of_a_flash();
+    next_records();
     erase_page(flash, 1)?;
     erase_page(flash, 0)?;
     write_slot(flash, 0, 0, &slot_octets(fields))
@@ -157,6 +177,9 @@ fn write_long_anew<F: Flash>(flash: &mut F, fields: &Record) -> Result<(), Faile
     ensures runs { Runs (either Anything) tt (tt ∷ tt ∷ tt ∷ []) (F.seen flash.old) (F.seen flash.new) result }
     ensures cause { HasCause (F.seen flash.old).faults (F.seen flash.new).faults result }
 {
+    ranges_of_octets();
+    runs::<Ways<F>>();
+    next_records();
     erase_page(flash, 1)?;
     write_page(flash, 0, &record_octets(fields, LONG))
 }

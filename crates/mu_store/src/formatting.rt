@@ -3,7 +3,7 @@ ghost use Rattle.std.specs.Prelude.{◌≡◌, ◌+◌, ◌*◌, ◌<◌, ◌≤
 ghost use Rattle.mu_model_flash.specs.Run.{either, Ran, Broke};
 ghost use Rattle.mu_model_record.specs.Next.{fresh_after};
 ghost use Rattle.mu_model_record.specs.Changes.{first_record, first_state};
-ghost use Rattle.mu_record.specs.Place.{Anything};
+ghost use Rattle.mu_model_record.specs.Turns.{Anything};
 ghost use Rattle.mu_store.specs.View.{store_flash, store_record, store_fresh, StoreHolds, StoreFaults};
 
 use crate::base::Base;

@@ -1,6 +1,6 @@
 use Rattle.std.proofs.Common.{ℕ, ◌*◌, subst, List, ◌∙◌}
 use Rattle.std.proofs.Math.ListN.{length-set}
-use Rattle.mu_model_flash.proofs.RangeLemmas.{range-part}
+use Rattle.mu_record.proofs.PartLemmas.{range-part}
 use Rattle.mu_model_record.specs.Record.{IsEntry}
 use Rattle.mu_record.proofs.EntryLemmas.{take_entry}
 use Rattle.mu_record.proofs.entry.entries_from.Goals as goal

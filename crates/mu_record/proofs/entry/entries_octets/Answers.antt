@@ -12,5 +12,5 @@ loop-b-preserved c =
     record {
       whole = c.put.auto.octets ∙ c.loop-b.invariant.whole;
       each = λ k lt. subst (λ (l : List ℕ). IsEntry (slice_index_or c.args.banks.now k Empty) (part_of l (48 * k) 48)) (sym c.put.ensures.written)
-          (put_entry c.args.banks.now c.loop-b.octets c.entry_octets-entry.result c.loop-b.b c.loop-b.invariant.whole fits c.loop-b-test.true c.entry_octets-entry.ensures c.loop-b.invariant.each k lt);
+          (put_entry c.ranges_of_octets.ensures.writes c.args.banks.now c.loop-b.octets c.entry_octets-entry.result c.loop-b.b c.loop-b.invariant.whole fits c.loop-b-test.true c.entry_octets-entry.ensures c.loop-b.invariant.each k lt);
     }

@@ -1,5 +1,5 @@
 use Rattle.std.proofs.Common.{arith, ◌∙◌, sym, ap}
-use Rattle.mu_model_flash.proofs.RangeLemmas.{range-part}
+use Rattle.mu_record.proofs.PartLemmas.{range-part}
 use Rattle.mu_model_image.specs.Meta.{meta_from}
 use Rattle.mu_record.proofs.EntryLemmas.{zero_part, part_zero, sealed_zero, zero_sealed}
 use Rattle.mu_record.proofs.entry.sealed_from.Goals as goal

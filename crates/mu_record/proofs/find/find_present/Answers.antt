@@ -1,7 +1,6 @@
 use Rattle.std.proofs.Common.{ℕ, List, sym, ◌∙◌, subst, arith}
-use Rattle.mu_model_flash.proofs.Compose.{unchanged_on, unchanged_same}
 use Rattle.mu_record.specs.Found.{FoundBefore}
-use Rattle.mu_record.proofs.FoundLemmas.{still_told, next_page, all_found, nothing_before}
+use Rattle.mu_record.proofs.FoundLemmas.{unchanged_same, still_told, next_page, all_found, nothing_before}
 use Rattle.mu_record.proofs.find.find_present.Goals as goal
 
 pub loop-page-init : goal.loop-page-init
@@ -18,7 +17,7 @@ loop-page-preserved g c =
     let s = g.F.Flash.seen c.loop-page.flash in
     let before = c.loop-page.invariant in
     record {
-      same = unchanged_on a s (g.F.Flash.seen c.scan_page.new.flash) before.same c.in_ok-found.ensures.reads.same;
+      same = (c.runs.ensures.join c.args.flash.now c.loop-page.flash c.scan_page.new.flash).unchanged before.same c.in_ok-found.ensures.reads.same;
       found = λ told. next_page a.octets c.loop-page.page c.in_ok-found.found (subst (λ (o : List ℕ). FoundBefore o c.loop-page.page 4 c.in_ok-found.found) (before.same.octets told) (c.in_ok-found.ensures.found (still_told a s before.same told)));
       sound = c.in_ok-found.ensures.sound;
       on = λ some. sym before.same.off ∙ c.in_ok-found.ensures.on;

@@ -9,7 +9,7 @@ use Rattle.mu_record.proofs.find.scan_page.Goals as goal
 pub returns-in_default-clause-found : goal.returns-in_default-clause-found
 returns-in_default-clause-found g c told =
     let a = g.F.Flash.seen c.args.flash.now in
-    page_none a.octets c.args.page c.requires.control (omega (arith, ((g.met.F.Flash.sound c.args.flash.now).is_image told).size, c.requires.within)) c.args.before (c.requires.found told)
+    page_none c.pages_of_a_flash.ensures.slots a.octets c.args.page c.requires.control (omega (arith, ((g.met.F.Flash.sound c.args.flash.now).is_image told).size, c.requires.within)) c.args.before (c.requires.found told)
     (match_none _ _ c.in_ok-first.field-0 (c.in_ok-first.ensures.content told) c.in_default.is)
 
 pub scan_slots-requires-clause-short : goal.scan_slots-requires-clause-short
@@ -20,7 +20,7 @@ scan_slots-requires-clause-short g c now_told =
     let within : 4096 * c.args.page + 4096 ≤ length a.octets = omega (arith, ((g.met.F.Flash.sound c.args.flash.now).is_image told).size, c.requires.within) in
     let code = match_some _ _ c.in_ok-first.field-0 c.in-Some.first (c.in_ok-first.ensures.content told) c.in-Some.is in
     subst (λ (o : List ℕ). IsCodeWord (slot_in (page_of o c.args.page) 0) × ¬ IsLong (page_of o c.args.page)) (sym (c.in_ok-first.ensures.same.octets told))
-    (first_code a.octets c.args.page c.requires.control within c.args.before (c.requires.found told) c.in-Some.first code, is_short a.octets c.args.page c.requires.control within c.args.before (c.requires.found told) c.in-Some.first code c.if-first-ne-LONG.true)
+    (first_code c.pages_of_a_flash.ensures.slots a.octets c.args.page c.requires.control within c.args.before (c.requires.found told) c.in-Some.first code, is_short c.pages_of_a_flash.ensures.slots a.octets c.args.page c.requires.control within c.args.before (c.requires.found told) c.in-Some.first code c.if-first-ne-LONG.true)
 
 pub returns-in-Some-2-clause-found : goal.returns-in-Some-2-clause-found
 returns-in-Some-2-clause-found g c told =
@@ -29,7 +29,7 @@ returns-in-Some-2-clause-found g c told =
     let within : 4096 * c.args.page + 4096 ≤ length a.octets = omega (arith, ((g.met.F.Flash.sound c.args.flash.now).is_image told).size, c.requires.within) in
     let code = match_some _ _ c.in_ok-first.field-0 c.in-Some.first (c.in_ok-first.ensures.content told) c.in-Some.is in
     subst (λ (f : Found). FoundBefore a.octets c.args.page 4 f) (sym c.with.ensures)
-    (long_some a.octets c.args.page c.requires.control within c.args.before (c.requires.found told) c.in-Some.first code c.if-first-ne-LONG.false c.in-Some-2.octets c.record_from.result
+    (long_some c.pages_of_a_flash.ensures.slots a.octets c.args.page c.requires.control within c.args.before (c.requires.found told) c.in-Some.first code c.if-first-ne-LONG.false c.in-Some-2.octets c.record_from.result
     (subst (λ (o : List ℕ). IsCodeWord (page_of o c.args.page) × (c.in-Some-2.octets ≡ content_of (page_of o c.args.page))) (c.in_ok-first.ensures.same.octets told)
     (match_some _ _ c.in_ok-octets.field-0 c.in-Some-2.octets (c.in_ok-octets.ensures.content (still_told a b c.in_ok-first.ensures.same told)) c.in-Some-2.is))
     c.record_from.ensures)
@@ -40,6 +40,6 @@ returns-in-None-clause-found g c told =
     let b = g.F.Flash.seen c.read_slot.new.flash in
     let within : 4096 * c.args.page + 4096 ≤ length a.octets = omega (arith, ((g.met.F.Flash.sound c.args.flash.now).is_image told).size, c.requires.within) in
     let code = match_some _ _ c.in_ok-first.field-0 c.in-Some.first (c.in_ok-first.ensures.content told) c.in-Some.is in
-    long_none a.octets c.args.page c.requires.control within c.args.before (c.requires.found told) c.in-Some.first code c.if-first-ne-LONG.false
+    long_none c.pages_of_a_flash.ensures.slots a.octets c.args.page c.requires.control within c.args.before (c.requires.found told) c.in-Some.first code c.if-first-ne-LONG.false
     (subst (λ (o : List ℕ). ¬ IsCodeWord (page_of o c.args.page)) (c.in_ok-first.ensures.same.octets told)
     (match_none _ _ c.in_ok-octets.field-0 (c.in_ok-octets.ensures.content (still_told a b c.in_ok-first.ensures.same told)) c.in-None.is))

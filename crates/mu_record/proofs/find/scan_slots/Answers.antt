@@ -1,5 +1,4 @@
 use Rattle.std.proofs.Common.{◌≡◌, ℕ, List, ◌+◌, ◌*◌, ◌≤◌, IsTrue, length, sym, ◌∙◌, subst, arith}
-use Rattle.mu_model_flash.proofs.Compose.{unchanged_on}
 use Rattle.mu_model_record.specs.Code.{IsCodeWord, content_of}
 use Rattle.mu_model_record.specs.Page.{slot_of}
 use Rattle.mu_record.specs.declared.find.Found.{Found}
@@ -15,14 +14,14 @@ loop-slot-preserved g c =
     let page = c.args.page in
     let k = c.loop-slot.slot in
     let before = c.loop-slot.invariant in
-    let same = unchanged_on a s (g.F.Flash.seen c.read_slot.new.flash) before.same c.in_ok-octets.ensures.same in
+    let same = (c.runs.ensures.join c.args.flash.now c.loop-slot.flash c.read_slot.new.flash).unchanged before.same c.in_ok-octets.ensures.same in
     let within : IsTrue a.told → 4096 * page + 4096 ≤ length a.octets = λ told. omega (arith, ((g.met.F.Flash.sound c.args.flash.now).is_image told).size, c.requires.within) in
     elim c.match-branch-2.branch [
       | in-Some w ↦ record {
         same = same;
         found = λ told.
             subst (λ (f : Found). FoundBefore a.octets page (k + 1) f) (sym (w.found-is ∙ w.with-found.ensures))
-            (slot_some a.octets page k c.requires.control (within told) c.loop-slot-test.true (c.requires.short told).0 (c.requires.short told).1 c.loop-slot.found (before.found told)
+            (slot_some c.pages_of_a_flash.ensures.slots a.octets page k c.requires.control (within told) c.loop-slot-test.true (c.requires.short told).0 (c.requires.short told).1 c.loop-slot.found (before.found told)
             w.in-Some.octets w.widened.result w.record_from.result
             (subst (λ (o : List ℕ). IsCodeWord (slot_of o page k) × (w.in-Some.octets ≡ content_of (slot_of o page k))) (before.same.octets told)
             (match_some _ _ c.in_ok-octets.field-0 w.in-Some.octets (c.in_ok-octets.ensures.content (still_told a s before.same told)) w.in-Some.is))
@@ -33,7 +32,7 @@ loop-slot-preserved g c =
         same = same;
         found = λ told.
             subst (λ (f : Found). FoundBefore a.octets page (k + 1) f) (sym w.found-is)
-            (slot_none a.octets page k c.requires.control (within told) c.loop-slot-test.true (c.requires.short told).0 (c.requires.short told).1 c.loop-slot.found (before.found told)
+            (slot_none c.pages_of_a_flash.ensures.slots a.octets page k c.requires.control (within told) c.loop-slot-test.true (c.requires.short told).0 (c.requires.short told).1 c.loop-slot.found (before.found told)
             (subst (λ (o : List ℕ). ¬ IsCodeWord (slot_of o page k)) (before.same.octets told)
             (match_none _ _ c.in_ok-octets.field-0 (c.in_ok-octets.ensures.content (still_told a s before.same told)) w.in_default.is)));
         sound = subst (λ (f : Found). IsSoundFound f) (sym w.found-is) before.sound;

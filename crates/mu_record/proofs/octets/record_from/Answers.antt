@@ -2,7 +2,6 @@ use Rattle.std.proofs.Common.{◌≡◌, length, subst, rules}
 use Rattle.mu_model_flash.specs.Bits.{part_of}
 use Rattle.mu_model_record.specs.declared.Record.{Record}
 use Rattle.mu_model_record.specs.Record.{entry_of}
-use Rattle.mu_model_record.proofs.RecordLemmas.{spelled_once}
 use Rattle.mu_record.specs.Ranges.{HasRanges}
 use Rattle.mu_record.proofs.SpellLemmas.{read_spelled, spelled_framed, spelled_entry, spelled_record, record_ranges}
 use Rattle.mu_record.proofs.octets.record_from.Goals as goal
@@ -31,5 +30,5 @@ returns-else-has_ranges c r sound spelled =
     let mine = read_spelled c.args.format c.read_u32.result c.read_u16.result c.in-Some.banks c.tag_of.result c.args.octets.now c.told-octets (c.is_framed.ensures.0 c.if-not-is_framed.false)
     c.in-Some.ensures c.read_u32.ensures c.read_u16.ensures c.tag_of.ensures in
     let four : length c.in-Some.banks ≡ 4 = search rules in
-    let same = spelled_once c.args.format r _ c.args.octets.now sound.four four spelled mine in
+    let same = c.records.ensures.octets c.args.format r _ c.args.octets.now sound.four four spelled mine in
     absurd (cc (c.if-has_ranges.false, c.has_ranges.ensures.1 (subst (λ (s : Record). HasRanges s) same (record_ranges r sound))))
