@@ -77,6 +77,14 @@ few_of r bank size log sound there is =
     let range = filling_range r bank size log sound there is in
     few_blocks size log (omega (arith, range.1, sound.pages_most)) range.2 range.3
 
+-- a bank that is being filled has a place for each block
+module _ (d : StoreState) (fields : Record) (is : d.present ≡ fields) (bank size log : ℕ) (there : bank < fields.number) (entry : entry_of fields bank ≡ Filling size log) (blocks : List (Option (List ℕ))) (content : content_of_bank d bank ≡ held blocks) (a : Seen) (page fresh : ℕ) (holds : HoldsAt a page fresh d) where
+  pub blocks_long : length blocks ≡ block_count size log
+  blocks_long =
+      let there_d : bank < d.present.number = subst (λ (r : Record). bank < r.number) (sym is) there in
+      let entry_d : entry_of d.present bank ≡ Filling size log = ap (λ (r : Record). entry_of r bank) is ∙ entry in
+      (subst (λ (k : Content). BankHolds d.present bank (Filling size log) k a.octets) content (subst (λ (e : BankState). BankHolds d.present bank e (content_of_bank d bank) a.octets) entry_d (holds.represents.banks bank there_d))).0
+
 module _ (d : StoreState) (fields : Record) (is : d.present ≡ fields) (bank size log : ℕ) (there : bank < fields.number) (entry : entry_of fields bank ≡ Filling size log) (blocks : List (Option (List ℕ))) (content : content_of_bank d bank ≡ held blocks) (i : ℕ) (lt : i < block_count size log) where
   pub there_d : bank < d.present.number
   there_d = subst (λ (r : Record). bank < r.number) (sym is) there
@@ -112,9 +120,6 @@ module _ (d : StoreState) (fields : Record) (is : d.present ≡ fields) (bank si
 
       pub mark_broke : Broke (either (MarkTurns a.octets (mark_place bank i))) before (after ∷ []) a b → Broke (either RepresentsStore) d (with_block d bank i octets ∷ []) a b
       mark_broke broke = broke_as _ _ before (after ∷ []) d (with_block d bank i octets ∷ []) a b refl (λ told. mark_reads page holds.word d a.octets holds.represents bank size log there_d entry_d blocks content i lt octets lies_d) broke
-
-    pub blocks_long : length blocks ≡ block_count size log
-    blocks_long = (subst (λ (k : Content). BankHolds d.present bank (Filling size log) k a.octets) content (subst (λ (e : BankState). BankHolds d.present bank e (content_of_bank d bank) a.octets) entry_d (holds.represents.banks bank there_d))).0
 
     pub put_content : (octets : List ℕ) → content_of_bank (with_block d bank i octets) bank ≡ held (set blocks i (Some octets))
     put_content octets =

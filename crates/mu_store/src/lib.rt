@@ -11,6 +11,8 @@ mod formatting;
 mod judge;
 mod marks;
 mod pages;
+mod plugging;
+mod reading;
 mod sealing;
 mod store;
 #[cfg(test)]
