@@ -14,9 +14,11 @@ mod pages;
 mod plugging;
 mod reading;
 mod sealing;
+mod source;
 mod store;
 #[cfg(test)]
 mod tests;
+mod whole;
 
 pub use booting::{BootFail, BootWhy, Booted, boot};
 pub use faults::{Stopped, StoreFault};
@@ -25,3 +27,4 @@ pub use formatting::format;
 pub use mu_record::{BankState, Tag};
 pub use sealing::Sealing;
 pub use store::Store;
+pub use whole::{FillFail, FillWhy};

@@ -42,7 +42,7 @@ fn are_octets(digest: [u8; 32])
 }
 
 // Metadata of an image is in the ranges of its types. It does nothing.
-fn is_meta(meta: Meta)
+pub(crate) fn is_meta(meta: Meta)
     requires { 0 < meta.size }
     ensures { IsMeta meta }
 {
