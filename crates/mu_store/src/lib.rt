@@ -3,6 +3,8 @@
 
 mod base;
 mod booting;
+#[cfg(test)]
+mod cut_tests;
 mod digest;
 mod entries;
 mod faults;
@@ -16,8 +18,6 @@ mod reading;
 mod sealing;
 mod source;
 mod store;
-#[cfg(test)]
-mod tests;
 mod whole;
 
 pub use booting::{BootFail, BootWhy, Booted, boot};
