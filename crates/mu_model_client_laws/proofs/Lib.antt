@@ -2,6 +2,7 @@ pub mod Cases
 pub mod Rising
 pub mod Fated
 pub mod Plans
+pub mod Asked
 pub mod Sound
 pub mod Chunks
 pub mod Worked
