@@ -10,5 +10,6 @@ pub mod WorkedInitiator
 pub mod Fields
 pub mod Gone
 pub mod Wire
+pub mod Opcodes
 pub mod Heard
 pub mod Named

@@ -2,7 +2,7 @@
 
 ghost use Rattle.mu_model_client_laws.specs.Worked.{RepairsTheUnion, Completes, DropsTheSilent, DropsByStatus, DropsOthers, GoesOn};
 ghost use Rattle.mu_model_client_laws.specs.WorkedInitiator.{Initiates};
-ghost use Rattle.mu_model_client_laws.specs.Wire.{RequestsAreRead, RepliesAreRead};
+ghost use Rattle.mu_model_client_laws.specs.Wire.{RequestsAreRead, RequestsKeepTheirOpcodes, RequestsAreNoAnswers, RepliesAreRead};
 ghost use Rattle.mu_model_client_laws.specs.Asked.{ClientsSendTheirPlans};
 ghost use Rattle.mu_model_client_laws.specs.Laws.{AtMostSixteen, FieldsAreRead, NamedSetsAreReported, NamedSetsAreRead, PlansStay, TimeKeepsRanks, CancellingKeepsRanks, RowsRise, RowsChangeByCause, RowsFollowPackets, TimeChangesAtFive, ApplyingDropsNobody, DropsStay, GroupGetsTheUnion, EachGetsWhatItMisses, StepsSendTheirLists, BeginsSound, EventsKeepSound, ListsGoToActive};
 
@@ -15,6 +15,12 @@ pub fn requests_are_read()
     grammar_holds();
     canonical_is_read();
 }
+
+/// What a client writes, in the ranges of the grammar or not, is read as a message of its kind or as none, and never as an answer.
+pub fn requests_are_no_answers()
+    ensures opcodes { RequestsKeepTheirOpcodes }
+    ensures answers { RequestsAreNoAnswers }
+{}
 
 /// A client reads what a node replies.
 pub fn replies_are_read()
