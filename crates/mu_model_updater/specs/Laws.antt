@@ -16,6 +16,7 @@ use Rattle.mu_model_client.specs.Begin.{is_ended}
 use Rattle.mu_model_client.specs.Client.{rows}
 use Rattle.mu_model_client.specs.Packets.{request_packet}
 use Rattle.mu_model_client.specs.Rows.{Row, is_reported, apply_success, apply_failed, phase_unknown}
+use Rattle.mu_model_client_laws.specs.Asked.{HasReceiver, receivers_of}
 use Rattle.mu_model_updater.specs.Updater.{Updater, new_updater, updater_step, updater_after, sent_in, starts_in, Heard, heard_in}
 
 -- ---- rows
@@ -60,18 +61,13 @@ RowsAreTold =
     (plan : Plan) (image : Image) (to : List (ℕ × ℕ)) (run : List (NodeEvent × ℕ))
     → AllByRecursion (RowIsTold plan (heard_in plan.sending.from run)) (rows (updater_after (new_updater plan image to) run).client)
 
--- each row is of its receiver, in their order
+-- each row is of its receiver and has the index of its image, in the receivers' order
 abbrev pub RowsAreOfReceivers : Type 0
 RowsAreOfReceivers =
     (plan : Plan) (image : Image) (to : List (ℕ × ℕ)) (run : List (NodeEvent × ℕ))
-    → map (λ (row : Row). (row.address, row.index)) (rows (updater_after (new_updater plan image to) run).client) ≡ to
+    → receivers_of (updater_after (new_updater plan image to) run).client ≡ to
 
 -- ---- Update Starts
-
--- a receiver with this index
-abbrev pub HasReceiver : List (ℕ × ℕ) → (address index : ℕ) → Type 0
-HasReceiver [] address index = ⊥
-HasReceiver (receiver ∷ more) address index = ((receiver.0 ≡ address) × (receiver.1 ≡ index)) ⊎ HasReceiver more address index
 
 -- an Update Start says what the plan says, and goes to a receiver with the index of its image
 pub record IsOffered (plan : Plan) (receivers : List (ℕ × ℕ)) (to : ℕ) (u : UpdateStart) : Type 0 where
