@@ -1,0 +1,13 @@
+use Rattle.mu_model_updater.proofs.Runs.{rows_of_receivers}
+use Rattle.mu_model_updater.proofs.laws.rows_are_of_receivers.Goals as goal
+
+pub returns : goal.returns
+returns c = rows_of_receivers (record {
+  plans = c.plans_stay.ensures;
+  sent = c.plans_are_sent.ensures;
+  begins = c.clients_are_sound.ensures.begins;
+  events = c.clients_are_sound.ensures.events;
+  causes = c.rows.ensures.causes;
+  follow = c.rows.ensures.follow;
+  time = c.silence.ensures.fifth;
+})

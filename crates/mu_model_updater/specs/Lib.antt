@@ -1,0 +1,2 @@
+pub mod Updater
+pub mod Laws
