@@ -5,3 +5,5 @@ pub mod Runs
 pub mod Jobs
 pub mod Versions
 pub mod Fates
+pub mod Offers
+pub mod Nexts

@@ -50,3 +50,14 @@ either_order (later h) (later k) =
       | inl o ↦ inl (later o)
       | inr o ↦ elim o [ inl p ↦ inr (inl (later p)) | inr p ↦ inr (inr p) ]
     ]
+
+-- ---- one of two lists has an entry
+
+pub in_split : {x : LogEntry} (log more : List LogEntry) → InOrder (x ∷ []) (log ++ more) → InOrder (x ∷ []) log ⊎ InOrder (x ∷ []) more
+in_split [] more h = inr h
+in_split (y ∷ log) more (here h) = inl (here none)
+in_split (y ∷ log) more (later h) = elim (in_split log more h) [ inl k ↦ inl (later k) | inr k ↦ inr k ]
+
+pub in_one : {x y : LogEntry} → InOrder (x ∷ []) (y ∷ []) → x ≡ y
+in_one (here h) = refl
+in_one (later h) = elim h [ ]

@@ -46,7 +46,7 @@ equal n = grind (arith, nat_tests)
 equal_octets : (xs : List ℕ) → bytes_eq xs xs ≡ true
 equal_octets xs = grind (arith, bytes_eq-Decides xs xs)
 
-same_self : (i : Job) → same_job i i ≡ true
+pub same_self : (i : Job) → same_job i i ≡ true
 same_self i = rw (equal i.ttl, equal i.base, equal i.id, equal i.index, equal i.meta.size, equal i.meta.version, equal_octets i.meta.digest) refl
 
 never_reopened : (stored : Stored) → reopened stored stored ≡ false
@@ -55,6 +55,10 @@ never_reopened Verified = refl
 never_reopened Refused = refl
 never_reopened Applied = refl
 
+-- a job that stays isn't new
+pub never_new : (i : Job) → is_new (Some i) i ≡ false
+never_new i = rw (same_self i, never_reopened i.stored) refl
+
 not_asked : (id : ℕ) (stored : Stored) → asked_by id stored stored ≡ []
 not_asked id Filling = refl
 not_asked id Verified = refl
@@ -62,7 +66,7 @@ not_asked id Refused = refl
 not_asked id Applied = refl
 
 -- what is logged of a job that goes on: that it was asked for, and its phase
-goes_on : (i j : Job) (m n : ℕ) → same_job j i ≡ true → reopened i.stored j.stored ≡ false → logged_by (Some i) (Some j) m n ≡ asked_by j.id i.stored j.stored ++ reached (Some i) (Some j) m n
+pub goes_on : (i j : Job) (m n : ℕ) → same_job j i ≡ true → reopened i.stored j.stored ≡ false → logged_by (Some i) (Some j) m n ≡ asked_by j.id i.stored j.stored ++ reached (Some i) (Some j) m n
 goes_on i j m n e k =
     let old : is_new (Some i) j ≡ false = rw (e, k) refl in
     let none : took (Some i) (Some j) ≡ [] = rw old refl in

@@ -1,13 +1,17 @@
 -- What the log of one node says over its whole run, whatever packets come, whatever time passes and whenever the power goes.
-use Rattle.std.specs.Prelude.{ℕ, ◌≡◌, ◌<◌, ◌≤◌, ◌⊎◌, List, [], ◌∷◌, ◌++◌, Some, None, slice_get}
+use Rattle.std.specs.Prelude.{ℕ, ◌≡◌, ◌<◌, ◌≤◌, ◌⊎◌, List, [], ◌∷◌, ◌++◌, Option, Some, None, slice_get, Contains, IsTrue}
 use Rattle.mu_model_image.specs.declared.Meta.{Meta}
-use Rattle.mu_model_image.specs.Meta.{Image}
+use Rattle.mu_model_image.specs.Meta.{Image, meta_from}
+use Rattle.mu_model_wire.specs.Packet.{Packet}
 use Rattle.mu_model_node.specs.declared.NodeConfig.{NodeConfig}
-use Rattle.mu_model_node.specs.Log.{LogEntry, Took, Asked, Active, Canceled, Reached}
+use Rattle.mu_model_node.specs.Events.{PacketComes}
+use Rattle.mu_model_node.specs.Log.{LogEntry, Took, Asked, Active, Canceled, Reached, logged}
 use Rattle.mu_model_node.specs.declared.Stored.{Stored}
 use Rattle.mu_model_node.specs.declared.Stored.TheVariants.{Filling, Verified, Refused, Applied}
-use Rattle.mu_model_node.specs.NodeState.{Job, NodeDurable, NodeState, update_phase, update_number, restarted}
-use Rattle.mu_model_node.specs.Safe.{Happening, InOrder, state_after, log_after}
+use Rattle.mu_model_node.specs.NodeState.{Job, NodeDurable, NodeState, update_phase, update_number, restarted, is_addressee}
+use Rattle.mu_model_node.specs.NodeMessages.{OfUpdate, request_at}
+use Rattle.mu_model_node.specs.UpdateMessages.{UpdateStart, StartUpdate}
+use Rattle.mu_model_node.specs.Safe.{Happening, Done, Torn, InOrder, happened, state_after, log_after}
 
 -- what holds of the log and the state of each run of a node that begins without a job, as a node is made
 abbrev pub InEachRun : (NodeDurable → List LogEntry → NodeState → Type 0) → Type 0
@@ -110,3 +114,57 @@ VerifiedIsHeld =
     InEachRun (λ d log s.
     (id index : ℕ) (meta : Meta) → OffersOne id index meta log → InOrder (Reached id 4 ∷ []) log
     → IsHeld s id index meta.version ⊎ CanceledSince id log)
+
+-- ---- what was offered
+
+-- the packets that come, those of torn events too
+abbrev pub come_by : Happening → List Packet
+come_by (Done (PacketComes packet) now) = packet ∷ []
+come_by (Torn (PacketComes packet) now operations) = packet ∷ []
+come_by _ = []
+
+abbrev pub come_in : List Happening → List Packet
+come_in [] = []
+come_in (h ∷ hs) = come_by h ++ come_in hs
+
+-- the packet is addressed to the node, and is an Update Start with this BLOB ID that offers these metadata for the image of this index
+pub record IsOffer (config : NodeConfig) (packet : Packet) (id index : ℕ) (meta : Meta) : Type 0 where
+  pub addressed : IsTrue (is_addressee config packet)
+  pub start : UpdateStart
+  pub asks : request_at packet.payload ≡ Some (OfUpdate (StartUpdate start))
+  pub same_id : start.id ≡ id
+  pub same_index : start.index ≡ index
+  pub same_meta : meta_from start.metadata ≡ Some meta
+
+-- from whatever state on, what is taken was offered by a packet that came
+abbrev pub TookWasOffered : Type 0
+TookWasOffered =
+    (config : NodeConfig) (s : NodeState) (hs : List Happening) (id index : ℕ) (meta : Meta)
+    → InOrder (Took id index meta ∷ []) (log_after config s hs)
+    → (packet : Packet) × Contains (come_in hs) packet × IsOffer config packet id index meta
+
+-- ---- from one happening to the next
+
+-- the job is the same, and is this far
+pub record GoesOn (j : Job) (new : Option Job) (far : Stored) : Type 0 where
+  pub job : Job
+  pub is : new ≡ Some job
+  pub id : job.id ≡ j.id
+  pub index : job.index ≡ j.index
+  pub meta : job.meta ≡ j.meta
+  pub stored : job.stored ≡ far
+
+-- a job that is verified stays so, is asked for, or is canceled; one that was asked for stays so, or its image becomes active
+abbrev pub NextOf : Job → Stored → List LogEntry → Option Job → Type 0
+NextOf j Verified entries new =
+    GoesOn j new Verified
+    ⊎ ((GoesOn j new Applied × InOrder (Asked j.id ∷ Reached j.id 6 ∷ []) entries)
+    ⊎ ((new ≡ None) × InOrder (Canceled j.id ∷ []) entries))
+NextOf j Applied entries new = GoesOn j new Applied ⊎ ((new ≡ None) × InOrder (Active j.index j.meta ∷ []) entries)
+NextOf j _ entries new = Unit {0}
+
+-- from whatever state
+abbrev pub JobGoesOn : Type 0
+JobGoesOn =
+    (config : NodeConfig) (s : NodeState) (h : Happening) (j : Job) → s.durable.job ≡ Some j
+    → NextOf j j.stored (logged s (happened config s h)) (happened config s h).durable.job
