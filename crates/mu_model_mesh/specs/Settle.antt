@@ -27,7 +27,7 @@ given_to number m address = given m number address
 pub data AllComes : (number : ℕ) → Mesh → (text : List ℕ) → (next : Mesh) → Type 0 where
   none_left : {number : ℕ} {m : Mesh} → length m.nodes.bag ≤ number → AllComes number m [] m
   comes :
-      {number : ℕ} {m mid next : Mesh} {first rest : List ℕ} (packet : Packet) → slice_get m.nodes.bag number ≡ Some packet
+      {number : ℕ} {m mid next : Mesh} (first rest : List ℕ) (packet : Packet) → slice_get m.nodes.bag number ≡ Some packet
       → EachComes (given_to number) (addressees m packet) m first mid → AllComes (number + 1) mid rest next
       → AllComes number m (first ++ rest) next
 
