@@ -23,6 +23,7 @@ pub mod RowMoves
 pub mod Counters
 pub mod RunLaws
 pub mod Records
+pub mod Starts
 pub mod RowsTold
 pub mod Stands
 pub mod Lists

@@ -2,6 +2,7 @@ pub mod Laws
 pub mod Planned
 pub mod RowMoves
 pub mod RunLaws
+pub mod Starts
 pub mod RowsTold
 pub mod Lists
 pub mod Scenes
