@@ -20,6 +20,7 @@ pub mod ClientPlan
 pub mod Planned
 pub mod Offered
 pub mod RowMoves
+pub mod Rests
 pub mod Counters
 pub mod RunLaws
 pub mod Records

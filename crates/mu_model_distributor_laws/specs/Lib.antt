@@ -1,6 +1,7 @@
 pub mod Laws
 pub mod Planned
 pub mod RowMoves
+pub mod Rests
 pub mod RunLaws
 pub mod Starts
 pub mod RowsTold
