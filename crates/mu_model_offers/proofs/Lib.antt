@@ -1,0 +1,6 @@
+pub mod Below
+pub mod Places
+pub mod Goes
+pub mod Book
+pub mod Own
+pub mod Agree
