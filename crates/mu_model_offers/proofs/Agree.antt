@@ -35,7 +35,7 @@ one_number address a b m n h k e = omega arith
 
 -- ---- the laws
 
-begin_order : StartsAreInOrder → (r : Run) → IsRun r → IsInOrder r.address (begin_of r)
+pub begin_order : StartsAreInOrder → (r : Run) → IsRun r → IsInOrder r.address (begin_of r)
 begin_order order r h = order r.address r.durable r.fresh h.durable h.fresh
 
 book : Below → StartsAreInOrder → (r : Run) → IsRun r → Book r.address (begin_of r) r.happenings

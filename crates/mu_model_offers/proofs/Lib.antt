@@ -4,3 +4,5 @@ pub mod Goes
 pub mod Book
 pub mod Own
 pub mod Agree
+pub mod Read
+pub mod Packets
