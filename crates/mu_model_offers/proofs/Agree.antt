@@ -1,5 +1,5 @@
 -- Under one BLOB ID there is one offer.
-use Rattle.std.proofs.Common.{◌≡◌, ℕ, ◌+◌, ◌*◌, ◌^◌, List, [], ◌∷◌, refl, sym, ap, subst, ◌∙◌, arith, ◌⊎◌, inl, inr}
+use Rattle.std.proofs.Common.{◌≡◌, ℕ, ◌+◌, ◌*◌, ◌^◌, List, [], ◌∷◌, refl, sym, ap, ◌∙◌, arith, ◌⊎◌, inl, inr}
 use Rattle.std.specs.List.{AllByRecursion}
 use Rattle.mu_model_image.specs.Meta.{meta_octets}
 use Rattle.mu_model_image.specs.Laws.{MetaIsReadBack}
@@ -8,14 +8,14 @@ use Rattle.mu_model_node.specs.NodeMessages.{OfUpdate}
 use Rattle.mu_model_distributor.specs.DistMessages.{Sent, ByClient}
 use Rattle.mu_model_distributor.specs.DistState.{Receiver, DistDurable, transfer_id}
 use Rattle.mu_model_distributor_laws.specs.RunLaws.{IsInOrder, RunsAreInOrder}
-use Rattle.mu_model_distributor_laws.specs.RowsTold.{Heard}
+use Rattle.mu_model_distributor_laws.specs.RowsTold.{Heard, InOrder, none, here, later}
 use Rattle.mu_model_distributor_laws.specs.Starts.{StartsAreInOrder}
-use Rattle.mu_model_offers.specs.Laws.{Run, IsRun, begin_of, kept_of, sent_of, heard_of, HasStart, HasHeard, StartsAgree, HeardAgrees, HeardAgree, IsUnheard, RowsAgree, RowsStandOnce, StartsAreOwn}
+use Rattle.mu_model_offers.specs.Laws.{Run, IsRun, begin_of, kept_of, sent_of, heard_of, HasStart, HasHeard, StartsAgree, HeardAgrees, HeardAgree, IsUnheard, RowsAgree, IsOwnHeard, HeardIsOwn, RowsStandOnce, StartsAreOwn}
 use Rattle.mu_model_offers.proofs.Below.{Below}
 use Rattle.mu_model_offers.proofs.Places.{Place, index_in}
 use Rattle.mu_model_offers.proofs.Goes.{IsKept}
 use Rattle.mu_model_offers.proofs.Book.{IsBooked, IsBookedAs, IsNoted, Book, book_of}
-use Rattle.mu_model_offers.proofs.Own.{IsOwnAs, run_own}
+use Rattle.mu_model_offers.proofs.Own.{IsOwnAs, run_own, run_heard}
 
 -- ---- one of many
 
@@ -24,10 +24,13 @@ start_of P [] to u h k = absurd k
 start_of P ((at, sent) ∷ sends) to u h (inl e) = rw (sym e.0, sym e.1) h.0
 start_of P ((at, sent) ∷ sends) to u h (inr k) = start_of P sends to u h.1 k
 
+among : (P : Heard → Type 0) {xs heard : List Heard} → InOrder xs heard → AllByRecursion P heard → AllByRecursion P xs
+among P none h = tt
+among P (here k) h = (h.0, among P k h.1)
+among P (later k) h = among P k h.1
+
 heard_one : (P : Heard → Type 0) (heard : List Heard) (x : Heard) → AllByRecursion P heard → HasHeard heard x → P x
-heard_one P [] x h k = absurd k
-heard_one P (y ∷ heard) x h (inl e) = subst P e h.0
-heard_one P (y ∷ heard) x h (inr k) = heard_one P heard x h.1 k
+heard_one P heard x h k = (among P k h).0
 
 -- one BLOB ID is of one number
 one_number : (address a b m n : ℕ) → a ≡ address * 2 ^ 48 + m → b ≡ address * 2 ^ 48 + n → a ≡ b → m ≡ n
@@ -90,3 +93,7 @@ rows_stand_once runs r h =
 pub starts_are_own : Below → MetaIsReadBack → StartsAreInOrder → StartsAreOwn
 starts_are_own below again order r to u h k =
     start_of (IsOwnAs r.address) (sent_of r) to u (run_own below again r.address (begin_of r) r.happenings h.happenings (begin_order order r h)) k
+
+pub heard_is_own : Below → StartsAreInOrder → HeardIsOwn
+heard_is_own below order r x h k =
+    heard_one (IsOwnHeard r.address) (heard_of r) x (run_heard below r.address (begin_of r) r.happenings h.happenings (begin_order order r h)) k

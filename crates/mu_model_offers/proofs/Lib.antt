@@ -4,5 +4,6 @@ pub mod Goes
 pub mod Book
 pub mod Own
 pub mod Agree
+pub mod Lists
 pub mod Read
 pub mod Packets

@@ -1,6 +1,6 @@
 -- Each Update Start of a distributor is of its own.
-use Rattle.std.proofs.Common.{◌≡◌, ◌<◌, ◌≤◌, ℕ, zero, suc, Bool, true, false, List, [], ◌∷◌, ◌++◌, length, refl, sym, ap, subst, ◌∙◌, arith, inl, inr}
-use Rattle.std.specs.Prelude.{slice_get}
+use Rattle.std.proofs.Common.{◌≡◌, ◌<◌, ◌≤◌, ℕ, zero, suc, Bool, true, false, List, [], ◌∷◌, ◌++◌, length, refl, sym, ap, subst, ◌∙◌, cond, arith, Option, Some, None, inl, inr}
+use Rattle.std.specs.Prelude.{◌==◌, slice_get}
 use Rattle.std.specs.List.{AllByRecursion}
 use Rattle.std.proofs.lemmas.List.{length-append}
 use Rattle.byteorder.specs.Endian.{little_bytes}
@@ -9,9 +9,10 @@ use Rattle.mu_model_image.specs.Meta.{IsMeta, meta_octets, meta_from}
 use Rattle.mu_model_image.specs.Laws.{MetaIsReadBack}
 use Rattle.mu_model_node.specs.UpdateMessages.{UpdateStart, UpdateRequest, InformationGet, MetadataCheck, UpdateGet, StartUpdate, UpdateCancel, UpdateApply}
 use Rattle.mu_model_node.specs.NodeMessages.{OfUpdate, OfBlob}
+use Rattle.mu_model_node.specs.Events.{NodeEvent, PacketComes, TimeComes}
 use Rattle.mu_model_node.specs.Safe.{Happening, Done, CutPower, Torn}
-use Rattle.mu_model_distributor.specs.DistMessages.{Sent, ByDistribution, ByBlob, ByClient}
-use Rattle.mu_model_distributor.specs.DistState.{StoredImage, Receiver, DistDurable, DistState, is_at_rest, offered}
+use Rattle.mu_model_distributor.specs.DistMessages.{Taken, OfDistribution, OfBlob as TakenBlob, OfReceiver, taken_at, Sent, ByDistribution, ByBlob, ByClient}
+use Rattle.mu_model_distributor.specs.DistState.{StoredImage, Receiver, DistDurable, DistState, is_at_rest, transfer_id, offered}
 use Rattle.mu_model_distributor.specs.Distribution.{meta_of}
 use Rattle.mu_model_distributor.specs.DistEvents.{dist_step}
 use Rattle.mu_model_distributor.specs.Runs.{happened}
@@ -19,7 +20,8 @@ use Rattle.mu_model_distributor.specs.Sound.{AreSettings, IsReceiver, AreReceive
 use Rattle.mu_model_distributor_laws.specs.Planned.{HasReceiver, IsSentAs, IsOffered}
 use Rattle.mu_model_distributor_laws.specs.Rests.{IsNoStart}
 use Rattle.mu_model_distributor_laws.specs.RunLaws.{HappeningFits, IsInOrder, sent_by, sent_in}
-use Rattle.mu_model_offers.specs.Laws.{IsOwnStart}
+use Rattle.mu_model_distributor_laws.specs.RowsTold.{heard_as, heard_event, heard_by, heard_in}
+use Rattle.mu_model_offers.specs.Laws.{IsOwnStart, IsOwnHeard}
 use Rattle.mu_model_offers.proofs.Below.{Below, happens, sends_offered}
 
 -- ---- one
@@ -112,3 +114,34 @@ run_own below again address s [] fits k = tt
 run_own below again address s (h ∷ hs) fits k =
     join (IsOwnAs address) (sent_by address s h) (sent_in address (happened address s h) hs) (happening_own below again address s h fits.0 k)
     (run_own below again address (happened address s h) hs fits.1 (happens below address s h fits.0 k))
+
+-- ---- what is heard
+
+taken_own : (address : ℕ) (d : DistDurable) (from : ℕ) (taken : Option Taken) → IsDistDurable d → AllByRecursion (IsOwnHeard address) (heard_as address d from taken)
+taken_own address d from None h = tt
+taken_own address d from (Some (OfDistribution request)) h = tt
+taken_own address d from (Some (TakenBlob request)) h = tt
+taken_own address d from (Some (OfReceiver answer)) h = by_rest (is_at_rest d.phase) refl
+  where
+    by_rest : (b : Bool) → is_at_rest d.phase ≡ b → AllByRecursion (IsOwnHeard address) (cond b [] (record { from = from; answer = answer; id = transfer_id address d; offer = meta_of (offered d) } ∷ []))
+    by_rest true e = tt
+    by_rest false e = (record { own = d.counter; id = refl; own_above = begun_some d h e; own_below = h.counter; is_meta = stored_meta d.capacity d.images d.settings.image (h.image e) h.images }, tt)
+
+event_heard : (address : ℕ) (d : DistDurable) (event : NodeEvent) → IsDistDurable d → AllByRecursion (IsOwnHeard address) (heard_event address d event)
+event_heard address d (PacketComes packet) h =
+    elim (packet.to == address) as (λ b. AllByRecursion (IsOwnHeard address) (cond b (heard_as address d packet.from (taken_at packet.payload)) [])) [
+      | true ↦ taken_own address d packet.from (taken_at packet.payload) h
+      | false ↦ tt
+    ]
+event_heard address d TimeComes h = tt
+
+happening_heard : (address : ℕ) (d : DistDurable) (x : Happening) → IsDistDurable d → AllByRecursion (IsOwnHeard address) (heard_by address d x)
+happening_heard address d (Done event now) h = event_heard address d event h
+happening_heard address d (Torn event now operations) h = event_heard address d event h
+happening_heard address d CutPower h = tt
+
+pub run_heard : Below → (address : ℕ) (s : DistState) (hs : List Happening) → AllByRecursion HappeningFits hs → IsInOrder address s → AllByRecursion (IsOwnHeard address) (heard_in address s hs)
+run_heard below address s [] fits k = tt
+run_heard below address s (h ∷ hs) fits k =
+    join (IsOwnHeard address) (heard_by address s.durable h) (heard_in address (happened address s h) hs) (happening_heard address s.durable h k.sound.durable)
+    (run_heard below address (happened address s h) hs fits.1 (happens below address s h fits.0 k))

@@ -1,20 +1,24 @@
 -- What a distributor offers over a whole run: under one BLOB ID one image's metadata, and to each receiver one index.
-use Rattle.std.specs.Prelude.{ℕ, ◌≡◌, ◌<◌, ◌≤◌, ◌+◌, ◌*◌, ◌^◌, ◌⊎◌, List, [], ◌∷◌, length, Some}
+use Rattle.std.specs.Prelude.{ℕ, ◌≡◌, ◌<◌, ◌≤◌, ◌+◌, ◌*◌, ◌^◌, ◌⊎◌, List, [], ◌∷◌, length, Option, Some, None}
 use Rattle.std.specs.List.{AllByRecursion}
 use Rattle.mu_model_image.specs.declared.Meta.{Meta}
 use Rattle.mu_model_image.specs.Meta.{IsMeta, meta_octets, meta_from}
+use Rattle.mu_model_wire.specs.Packet.{Packet}
+use Rattle.mu_model_node.specs.Events.{NodeEvent}
 use Rattle.mu_model_node.specs.UpdateMessages.{UpdateStart, StartUpdate}
 use Rattle.mu_model_node.specs.NodeMessages.{OfUpdate}
 use Rattle.mu_model_node.specs.Safe.{Happening}
-use Rattle.mu_model_client.specs.Rows.{phase_unknown}
+use Rattle.mu_model_client.specs.Rows.{Row, phase_unknown}
 use Rattle.mu_model_distributor.specs.DistMessages.{Sent, ByClient}
 use Rattle.mu_model_distributor.specs.declared.DistPhase.TheVariants.{Idle}
-use Rattle.mu_model_distributor.specs.DistState.{Receiver, DistDurable, DistState, transfer_id}
-use Rattle.mu_model_distributor.specs.DistEvents.{live}
+use Rattle.mu_model_distributor.specs.DistState.{Receiver, DistDurable, DistState, transfer_id, receiver_of}
+use Rattle.mu_model_distributor.specs.DistEvents.{dist_step, live}
 use Rattle.mu_model_distributor.specs.Runs.{state_after}
 use Rattle.mu_model_distributor.specs.Sound.{AreReceivers, AddressesDiffer, IsDistDurable}
+use Rattle.mu_model_distributor_laws.specs.Laws.{EventFits}
+use Rattle.mu_model_distributor_laws.specs.Lists.{list_at}
 use Rattle.mu_model_distributor_laws.specs.RunLaws.{HappeningFits, sent_in}
-use Rattle.mu_model_distributor_laws.specs.RowsTold.{Heard, heard_in}
+use Rattle.mu_model_distributor_laws.specs.RowsTold.{Heard, heard_in, InOrder}
 
 -- ---- a run
 
@@ -34,9 +38,12 @@ pub record IsRun (r : Run) : Type 0 where
 abbrev pub begin_of : Run → DistState
 begin_of r = live r.address r.durable r.fresh
 
+abbrev pub end_of : Run → DistState
+end_of r = state_after r.address (begin_of r) r.happenings
+
 -- what it keeps at the end
 abbrev pub kept_of : Run → DistDurable
-kept_of r = (state_after r.address (begin_of r) r.happenings).durable
+kept_of r = (end_of r).durable
 
 -- what it sent, each with its destination
 abbrev pub sent_of : Run → List (ℕ × Sent)
@@ -52,8 +59,7 @@ HasStart ((at, sent) ∷ sends) to u = ((at ≡ to) × (sent ≡ ByClient (OfUpd
 
 -- this was heard
 abbrev pub HasHeard : List Heard → Heard → Type 0
-HasHeard [] h = ⊥
-HasHeard (x ∷ heard) h = (x ≡ h) ⊎ HasHeard heard h
+HasHeard heard h = InOrder (h ∷ []) heard
 
 -- ---- one BLOB ID, one offer
 
@@ -87,6 +93,17 @@ RowsAgree =
 abbrev pub RowsStandOnce : Type 0
 RowsStandOnce = (r : Run) → IsRun r → AreReceivers (kept_of r).receivers × AddressesDiffer (kept_of r).receivers
 
+-- and so have the rows of each Receivers List that is sent then
+abbrev pub ListAgrees : DistDurable → ℕ → UpdateStart → Option (List Row) → Type 0
+ListAgrees d to u None = Unit {0}
+ListAgrees d to u (Some shown) = AllByRecursion (λ (row : Row). row.address ≡ to → (row.index ≡ u.index) ⊎ IsUnheard d (receiver_of row)) shown
+
+abbrev pub ListsAgree : Type 0
+ListsAgree =
+    (r : Run) (event : NodeEvent) (now to : ℕ) (u : UpdateStart) → IsRun r → EventFits event → HasStart (sent_of r) to u
+    → u.id ≡ transfer_id r.address (kept_of r)
+    → AllByRecursion (λ (p : Packet). ListAgrees (kept_of r) to u (list_at p.payload)) (dist_step r.address (end_of r) event now).sent
+
 -- ---- each of its own
 
 -- an Update Start of a distributor with this address
@@ -110,3 +127,14 @@ pub record IsOwnStart (address to : ℕ) (u : UpdateStart) : Type 0 where
 
 abbrev pub StartsAreOwn : Type 0
 StartsAreOwn = (r : Run) (to : ℕ) (u : UpdateStart) → IsRun r → HasStart (sent_of r) to u → IsOwnStart r.address to u
+
+-- an answer that it heard: it was heard for an image that was offered then
+pub record IsOwnHeard (address : ℕ) (h : Heard) : Type 0 where
+  pub own : ℕ
+  pub id : h.id ≡ address * 2 ^ 48 + own
+  pub own_above : 1 ≤ own
+  pub own_below : own < 2 ^ 48
+  pub is_meta : IsMeta h.offer
+
+abbrev pub HeardIsOwn : Type 0
+HeardIsOwn = (r : Run) (h : Heard) → IsRun r → HasHeard (heard_of r) h → IsOwnHeard r.address h

@@ -1,5 +1,6 @@
 use Rattle.mu_model_offers.proofs.Below.{Below}
-use Rattle.mu_model_offers.proofs.Agree.{starts_agree, heard_agrees, heard_agree, rows_agree, rows_stand_once, starts_are_own}
+use Rattle.mu_model_offers.proofs.Agree.{starts_agree, heard_agrees, heard_agree, rows_agree, rows_stand_once, starts_are_own, heard_is_own}
+use Rattle.mu_model_offers.proofs.Lists.{lists_agree}
 use Rattle.mu_model_offers.proofs.laws.offers_agree.Goals as goal
 
 below : goal.After-rows_are_told → Below
@@ -30,6 +31,12 @@ returns-clause-rows c = rows_agree (below c) c.starts_are_in_order.ensures.order
 
 pub returns-clause-once : goal.returns-clause-once
 returns-clause-once c = rows_stand_once c.runs_are_in_order.ensures.order
+
+pub returns-clause-lists : goal.returns-clause-lists
+returns-clause-lists c = lists_agree (below c) c.starts_are_in_order.ensures.order c.runs_are_in_order.ensures.order c.lists_are_told.ensures.rows
+
+pub returns-clause-heard_own : goal.returns-clause-heard_own
+returns-clause-heard_own c = heard_is_own (below c) c.starts_are_in_order.ensures.order
 
 pub returns-clause-own : goal.returns-clause-own
 returns-clause-own c = starts_are_own (below c) c.metadata.ensures.read_back c.starts_are_in_order.ensures.order
