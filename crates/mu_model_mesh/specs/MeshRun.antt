@@ -1,5 +1,5 @@
 -- Whole runs of scripts with updaters and distributors.
-use Rattle.std.specs.Prelude.{ℕ, ◌≡◌, false, List, [], Contains}
+use Rattle.std.specs.Prelude.{ℕ, ◌≡◌, ◌⊎◌, false, List, [], Contains}
 use Rattle.mu_model_script.specs.Event.{Event, Settle}
 use Rattle.mu_model_script.specs.Runs as runs
 use Rattle.mu_model_world.specs.Judged.{Judged, Silent, Refused, Sound}
@@ -45,3 +45,7 @@ pub data Reaches : Mesh → Mesh → Type 0 where
   here : {m : Mesh} → Reaches m m
   by_time : {m mid next : Mesh} (address ms : ℕ) (text : List ℕ) → Contains (time_comes m address ms) (record { mesh = mid; text = text }) → Reaches mid next → Reaches m next
   by_packet : {m mid next : Mesh} (number address : ℕ) (text : List ℕ) → Contains (given m number address) (record { mesh = mid; text = text }) → Reaches mid next → Reaches m next
+
+-- a world after a line, or within the next
+abbrev pub Within : Mesh → Mesh → Type 0
+Within m mid = (mid ≡ m) ⊎ Reaches (mesh_begun m) mid

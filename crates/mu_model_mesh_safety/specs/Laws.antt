@@ -7,12 +7,12 @@ use Rattle.mu_model_world.specs.World.{Member, config_of}
 use Rattle.mu_model_world.specs.Outcomes.{booted}
 use Rattle.mu_model_mesh.specs.Mesh.{DistributorMember, Mesh, new_mesh, node_at, distributor_at}
 use Rattle.mu_model_mesh.specs.MeshOutcomes.{of_nodes, dist_booted}
-use Rattle.mu_model_mesh.specs.MeshRun.{MeshRun, Reaches}
+use Rattle.mu_model_mesh.specs.MeshRun.{MeshRun, Within}
 use Rattle.mu_model_mesh_safety.specs.Safe.{IsSafe, ListsAreTrue}
 
 -- what holds of each world of each script, whatever outcomes its tears have, and of each world within a line
 abbrev pub Always : (Mesh → Type 0) → Type 0
-Always Holds = (lines : List (List ℕ)) (text : List ℕ) (m mid : Mesh) → MeshRun new_mesh lines text m → Reaches m mid → Holds mid
+Always Holds = (lines : List (List ℕ)) (text : List ℕ) (m mid : Mesh) → MeshRun new_mesh lines text m → Within m mid → Holds mid
 
 abbrev pub EveryWorldIsSafe : Type 0
 EveryWorldIsSafe = Always IsSafe
