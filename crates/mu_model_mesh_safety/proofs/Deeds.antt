@@ -18,6 +18,7 @@ use Rattle.mu_model_distributor.specs.DistState.{transfer_id}
 use Rattle.mu_model_distributor.specs.Runs.{happened as dist_happened}
 use Rattle.mu_model_fates.specs.Laws.{come_by}
 use Rattle.mu_model_offers.specs.Packets.{packets_by}
+use Rattle.mu_model_packets.specs.Laws.{IsSending}
 use Rattle.mu_model_script.specs.Ranges.{IsUnicast}
 use Rattle.mu_model_told.specs.Reached.{sent_by}
 use Rattle.mu_model_updater.specs.Laws.{IsInRange}
@@ -171,7 +172,7 @@ pub record NewUpdater (m next : Mesh) : Type 0 where
   pub blob_id : plan.sending.id ≡ address * 2 ^ 48 + id
   pub small : id < 2 ^ 48
   pub range : IsInRange plan to
-  pub octets : AreOctets image.octets
+  pub sends : IsSending plan image
   pub added : next.updaters ≡ m.updaters ++ (address, record { moment = moment; updater = new_updater plan image to }) ∷ []
   pub nodes : SameNodes m next
   pub air : SameAir m next
@@ -199,7 +200,6 @@ pub record Stocks (m next : Mesh) : Type 0 where
   pub state : new.state ≡ stocked old.state image
   pub meta : IsMeta image.meta
   pub active : IsActiveImage old.state.durable.capacity image
-  pub octets : AreOctets image.octets
   pub distributors : next.distributors ≡ set_value (nat_eq address) m.distributors new
   pub nodes : SameNodes m next
   pub air : SameAir m next
@@ -216,7 +216,7 @@ pub data Deed (m next : Mesh) : Type 0 where
   node_goes : NodeGoes m next → Deed m next
   updater_goes : UpdaterGoes m next → Deed m next
   distributor_goes : DistributorGoes m next → Deed m next
-  new_node : NewNode m next → Deed m next
-  new_updater : NewUpdater m next → Deed m next
-  new_distributor : NewDistributor m next → Deed m next
+  adds_node : NewNode m next → Deed m next
+  adds_updater : NewUpdater m next → Deed m next
+  adds_distributor : NewDistributor m next → Deed m next
   stocks : Stocks m next → Deed m next

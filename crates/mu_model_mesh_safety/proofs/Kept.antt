@@ -2,9 +2,9 @@
 use Rattle.std.proofs.Common.{◌≡◌, ℕ, ◌<◌, ◌*◌, ◌^◌, ◌+◌, List, [], ◌∷◌, ◌++◌, length, Option, Some, None, Bool, true, false, Contains}
 use Rattle.std.specs.List.{AllByRecursion}
 use Rattle.mu_model_image.specs.Meta.{Image, IsMeta}
-use Rattle.mu_model_wire.specs.Laws.{AreOctets}
 use Rattle.mu_model_wire.specs.Packet.{Packet}
 use Rattle.mu_model_node.specs.Events.{NodeEvent}
+use Rattle.mu_model_node.specs.Log.{LogEntry}
 use Rattle.mu_model_node.specs.NodeMessages.{OfUpdate, request_at}
 use Rattle.mu_model_node.specs.NodeState.{NodeDurable, restarted}
 use Rattle.mu_model_node.specs.Safe.{Happening, state_after, log_after}
@@ -17,6 +17,7 @@ use Rattle.mu_model_distributor.specs.Runs.{state_after as dist_state_after}
 use Rattle.mu_model_fates.specs.Laws.{come_in}
 use Rattle.mu_model_offers.specs.Laws.{Run, IsRun, begin_of}
 use Rattle.mu_model_offers.specs.Packets.{packets_of}
+use Rattle.mu_model_packets.specs.Laws.{PacketFits, IsSending}
 use Rattle.mu_model_script.specs.Ranges.{IsUnicast}
 use Rattle.mu_model_told.specs.Reached.{HappeningFits, sent_in}
 use Rattle.mu_model_updater.specs.Laws.{IsInRange}
@@ -45,7 +46,7 @@ pub record NodeRun (bag : List Packet) (address : ℕ) (n : Member) : Type 0 whe
   pub sent : SentBy bag address (sent_in (config_of address n) (restarted made) hs)
 
 -- its log is that of its run
-abbrev pub IsLogOf : (bag : List Packet) (address : ℕ) (n : Member) → NodeRun bag address n → (log : List _) → Type 0
+abbrev pub IsLogOf : (bag : List Packet) (address : ℕ) (n : Member) → NodeRun bag address n → (log : List LogEntry) → Type 0
 IsLogOf bag address n r log = log ≡ log_after (config_of address n) (restarted r.made) r.hs
 
 pub record UpdaterRun (bag : List Packet) (address : ℕ) (u : UpdaterMember) : Type 0 where
@@ -58,7 +59,7 @@ pub record UpdaterRun (bag : List Packet) (address : ℕ) (u : UpdaterMember) : 
   pub blob_id : plan.sending.id ≡ address * 2 ^ 48 + id
   pub small : id < 2 ^ 48
   pub range : IsInRange plan to
-  pub octets : AreOctets image.octets
+  pub sends : IsSending plan image
   pub state : u.updater ≡ updater_after (new_updater plan image to) run
   pub come : AreIn bag (updater_come_in run)
   pub sent : SentBy bag address (updater_sent_in (new_updater plan image to) run)
@@ -81,7 +82,7 @@ pub record DistributorRun (bag : List Packet) (address : ℕ) (d : DistributorMe
 -- ---- packets
 
 pub record IsPacket (m : Mesh) (p : Packet) : Type 0 where
-  pub octets : AreOctets p.payload
+  pub fits : PacketFits p
   -- a stranger offers nothing under a member's BLOB ID
   pub stranger : is_member m p.from ≡ false → (u : UpdateStart) → request_at p.payload ≡ Some (OfUpdate (StartUpdate u)) → is_member m (owner_of u.id) ≡ false
 
