@@ -1,3 +1,6 @@
 pub mod Ends
+pub mod Begins
 pub mod Runs
 pub mod Told
+pub mod Starts
+pub mod Read

@@ -15,7 +15,7 @@ use Rattle.mu_model_client.specs.Due.{due, fell_silent}
 use Rattle.mu_model_client.specs.Packets.{answer_handled, client_packet}
 use Rattle.mu_model_client.specs.Rows.{Row, is_reported, row_after}
 use Rattle.mu_model_client.specs.Told.{told as told_client}
-use Rattle.mu_model_client_laws.specs.Laws.{Each, PhaseCause, as_before, was_told, was_shown, phase_said, FollowsPacket, TimeChanges, nothing, fifth}
+use Rattle.mu_model_client_laws.specs.Laws.{Each, PhaseCause, as_before, was_told, was_shown, phase_said, FollowsPacket, RowsChangeByCause, RowsFollowPackets, TimeChangesAtFive, TimeChanges, nothing, fifth}
 use Rattle.mu_model_updater.specs.Updater.{Updater, new_updater, updater_step, updater_after, Heard, heard_as, heard_by, heard_in}
 use Rattle.mu_model_updater.specs.Laws.{InOrder, none, here, later, ToldPhase, RowIsTold, unknown, failed, told, shown, RowsAreTold}
 use Rattle.mu_model_updater.proofs.Runs.{ClientLaws, DoesPlan, begins, event_goes, addresses, indexes, heads, tails}
@@ -79,7 +79,14 @@ answered plan old a b answer at ind (was_shown count more e reported of) h =
 not_same : (a b : ℕ) → (a == b) ≡ false → a ≡ b → ⊥
 not_same a b e k = grind (arith, nat_tests)
 
-module _ (known : ClientLaws) (plan : Plan) where
+-- what holds of every client's rows
+pub record RowLaws : Type 0 where
+  pub clients : ClientLaws
+  pub causes : RowsChangeByCause
+  pub follow : RowsFollowPackets
+  pub time : TimeChangesAtFive
+
+module _ (known : RowLaws) (plan : Plan) where
   row_follows : (c : Client) (from : ℕ) (answer : Answer) (old : List Heard) (a b : Receiver) (is_from : Bool) → (a.row.address == from) ≡ is_from → c.sending ≡ plan.sending → c.purpose ≡ purpose_of plan
       → b.row.address ≡ a.row.address → b.row.index ≡ a.row.index → FollowsPacket c from answer a b → RowIsTold plan old a.row → RowIsTold plan (old ++ record { from = from; answer = answer } ∷ []) b.row
   row_follows c from answer old a b true e sending purpose at ind follows h =
@@ -110,7 +117,7 @@ module _ (known : ClientLaws) (plan : Plan) where
       → AllByRecursion (RowIsTold plan (old ++ heard_as from answer)) (rows (answer_handled c from now answer).next)
   answer_tells to c from now None old k h = all_more old [] (rows c) h
   answer_tells to c from now (Some answer) old k h =
-      let same = known.plans.tells c from answer now in
+      let same = known.clients.plans.tells c from answer now in
       rows_follow c from answer old c.receivers (told_client c from answer now).receivers k.sending k.purpose same.addresses same.indexes (known.follow c from answer now) h
 
   packet_tells : (to : List (ℕ × ℕ)) (c : Client) (packet : Packet) (now : ℕ) (old : List Heard) → DoesPlan plan to c → AllByRecursion (RowIsTold plan old) (rows c)
@@ -167,7 +174,7 @@ module _ (known : ClientLaws) (plan : Plan) where
 
   time_tells : (to : List (ℕ × ℕ)) (c : Client) (image : List ℕ) (now : ℕ) (old : List Heard) → DoesPlan plan to c → AllByRecursion (RowIsTold plan old) (rows c) → AllByRecursion (RowIsTold plan old) (rows (due c image now).next)
   time_tells to c image now old k h =
-      let same = known.plans.dues c image now in
+      let same = known.clients.plans.dues c image now in
       rows_wait c now old c.receivers (due c image now).next.receivers same.addresses same.indexes (known.time c image now k.sound) h
 
   -- ---- runs
@@ -184,11 +191,11 @@ module _ (known : ClientLaws) (plan : Plan) where
   run_tells to u [] old k h = all_more old [] (rows u.client) h
   run_tells to u (e ∷ run) old k h =
       subst (λ (heard : List Heard). AllByRecursion (RowIsTold plan heard) (rows (updater_after u (e ∷ run)).client)) (append_assoc old (heard_by plan.sending.from e.0) (heard_in plan.sending.from run))
-      (run_tells to (updater_step u e.0 e.1).next run (old ++ heard_by plan.sending.from e.0) (event_goes known plan to u e.0 e.1 k) (event_tells to u e.0 e.1 old k h))
+      (run_tells to (updater_step u e.0 e.1).next run (old ++ heard_by plan.sending.from e.0) (event_goes known.clients plan to u e.0 e.1 k) (event_tells to u e.0 e.1 old k h))
 
 new_told : (plan : Plan) (to : List (ℕ × ℕ)) → AllByRecursion (RowIsTold plan []) (map row_of (map new_active to))
 new_told plan [] = tt
 new_told plan (x ∷ to) = (unknown refl, new_told plan to)
 
-pub rows_are_told : ClientLaws → RowsAreTold
-rows_are_told known plan image to run = run_tells known plan to (new_updater plan image to) run [] (begins known plan to) (new_told plan to)
+pub rows_are_told : RowLaws → RowsAreTold
+rows_are_told known plan image to run = run_tells known plan to (new_updater plan image to) run [] (begins known.clients plan to) (new_told plan to)

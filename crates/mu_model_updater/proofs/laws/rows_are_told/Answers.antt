@@ -8,17 +8,16 @@ returns-clause-receivers c = rows_of_receivers (record {
   sent = c.plans_are_sent.ensures;
   begins = c.clients_are_sound.ensures.begins;
   events = c.clients_are_sound.ensures.events;
-  causes = c.rows.ensures.causes;
-  follow = c.rows.ensures.follow;
-  time = c.silence.ensures.fifth;
 })
 
 pub returns-clause-told : goal.returns-clause-told
 returns-clause-told c = rows_are_told (record {
-  plans = c.plans_stay.ensures;
-  sent = c.plans_are_sent.ensures;
-  begins = c.clients_are_sound.ensures.begins;
-  events = c.clients_are_sound.ensures.events;
+  clients = record {
+    plans = c.plans_stay.ensures;
+    sent = c.plans_are_sent.ensures;
+    begins = c.clients_are_sound.ensures.begins;
+    events = c.clients_are_sound.ensures.events;
+  };
   causes = c.rows.ensures.causes;
   follow = c.rows.ensures.follow;
   time = c.silence.ensures.fifth;
