@@ -4,3 +4,5 @@ pub mod Runs
 pub mod Told
 pub mod Starts
 pub mod Read
+pub mod Worked
+pub mod Lines

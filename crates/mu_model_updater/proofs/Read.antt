@@ -17,7 +17,7 @@ use Rattle.mu_model_client.specs.Packets.{request_message, request_octets, reque
 use Rattle.mu_model_client_laws.specs.Asked.{HasReceiver, IsStart, IsOfPlan}
 use Rattle.mu_model_client_laws.specs.Wire.{StartInRange, RequestsAreRead, RequestsKeepTheirOpcodes}
 use Rattle.mu_model_updater.specs.Updater.{Updater, new_updater, updater_step, sent_in, start_in, starts_of, starts_in, asked_by}
-use Rattle.mu_model_updater.specs.Laws.{IsInRange, HasStart, IsStartOf, StartsAreRead}
+use Rattle.mu_model_updater.specs.Laws.{IsOffered, StartsAreOffered, IsInRange, HasStart, IsStartOf, StartsAreRead, IsOfferedAs, ReadStartsAreOffered}
 use Rattle.mu_model_updater.proofs.Runs.{ClientLaws, DoesPlan, begins, event_goes, event_asks}
 use Rattle.mu_model_updater.proofs.Starts.{Asks, both_all, weaker, event_sends}
 
@@ -126,3 +126,26 @@ module _ (read : RequestsAreRead) (opcodes : RequestsKeepTheirOpcodes) where
 
 pub starts_are_read : RequestsAreRead → RequestsKeepTheirOpcodes → ClientLaws → StartsAreRead
 starts_are_read read opcodes known plan image to run range = run_read read opcodes plan to range known (new_updater plan image to) run (begins known plan to)
+
+-- ---- what is read is offered
+
+start_offered : (plan : Plan) (receivers : List (ℕ × ℕ)) (starts : List (ℕ × UpdateStart)) (to : ℕ) (u : UpdateStart) → AllByRecursion (λ (x : ℕ × UpdateStart). IsOffered plan receivers x.0 x.1) starts → HasStart starts to u → IsOffered plan receivers to u
+start_offered plan receivers [] to u h k = absurd k
+start_offered plan receivers (x ∷ starts) to u h (inl e) = subst (λ (address : ℕ). IsOffered plan receivers address u) e.0 (subst (λ (s : UpdateStart). IsOffered plan receivers x.0 s) e.1 h.0)
+start_offered plan receivers (x ∷ starts) to u h (inr k) = start_offered plan receivers starts to u h.1 k
+
+offered_as : (plan : Plan) (receivers : List (ℕ × ℕ)) (starts : List (ℕ × UpdateStart)) (to : ℕ) (request : Option Request) → AllByRecursion (λ (x : ℕ × UpdateStart). IsOffered plan receivers x.0 x.1) starts → IsStartOf starts to request → IsOfferedAs plan receivers to request
+offered_as plan receivers starts to None h k = tt
+offered_as plan receivers starts to (Some (OfBlob request)) h k = tt
+offered_as plan receivers starts to (Some (OfUpdate (StartUpdate u))) h k = start_offered plan receivers starts to u h k
+offered_as plan receivers starts to (Some (OfUpdate (InformationGet first limit))) h k = tt
+offered_as plan receivers starts to (Some (OfUpdate (MetadataCheck index metadata))) h k = tt
+offered_as plan receivers starts to (Some (OfUpdate UpdateGet)) h k = tt
+offered_as plan receivers starts to (Some (OfUpdate UpdateCancel)) h k = tt
+offered_as plan receivers starts to (Some (OfUpdate UpdateApply)) h k = tt
+
+pub read_starts_are_offered : StartsAreOffered → StartsAreRead → ReadStartsAreOffered
+read_starts_are_offered offered law plan image to run range =
+    weaker (Read (starts_in (new_updater plan image to) run)) (λ (p : Packet). IsOfferedAs plan to p.to (request_at p.payload)) (sent_in (new_updater plan image to) run)
+    (λ p k. offered_as plan to (starts_in (new_updater plan image to) run) p.to (request_at p.payload) (offered plan image to run) k)
+    (law plan image to run range)
