@@ -13,8 +13,8 @@ use Rattle.mu_model_updater.specs.Updater.{Updater, updater_step}
 use Rattle.mu_model_updater.specs.Laws.{EndsStay}
 
 pub record Rests (c next : Client) (sent : List Packet) : Type 0 where
-  stays : next.place ≡ c.place
-  silent : sent ≡ []
+  pub stays : next.place ≡ c.place
+  pub silent : sent ≡ []
 
 -- ---- packets
 

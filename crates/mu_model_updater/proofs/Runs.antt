@@ -15,19 +15,16 @@ use Rattle.mu_model_client.specs.Packets.{answer_handled, client_packet}
 use Rattle.mu_model_client.specs.Rows.{Row}
 use Rattle.mu_model_client.specs.Told.{told}
 use Rattle.mu_model_client_laws.specs.Asked.{address_and_index, receivers_of, IsOfPlan, IsItemOfPlan, SendsPlan, ClientsSendTheirPlans}
-use Rattle.mu_model_client_laws.specs.Laws.{SamePlan, KeepsPlan, IsSound, BeginSound, EventsSound, RowsChangeByCause, RowsFollowPackets, TimeChangesAtFive}
+use Rattle.mu_model_client_laws.specs.Laws.{SamePlan, KeepsPlan, IsSound, BeginSound, EventsSound}
 use Rattle.mu_model_updater.specs.Updater.{Updater, new_updater, updater_step, updater_after, asked_by}
 use Rattle.mu_model_updater.specs.Laws.{RowsAreOfReceivers}
 
--- what holds of every client
+-- what holds of every client's plan
 pub record ClientLaws : Type 0 where
   pub plans : KeepsPlan
   pub sent : ClientsSendTheirPlans
   pub begins : BeginSound
   pub events : EventsSound
-  pub causes : RowsChangeByCause
-  pub follow : RowsFollowPackets
-  pub time : TimeChangesAtFive
 
 -- ---- receivers
 

@@ -1,5 +1,5 @@
 -- What holds of every updater, whatever comes to it and when.
-use Rattle.std.specs.Prelude.{ℕ, ◌≡◌, ◌⊎◌, ◌<◌, ◌^◌, true, List, [], ◌∷◌, map, take, Option, Some, None, Ok}
+use Rattle.std.specs.Prelude.{ℕ, ◌≡◌, ◌⊎◌, ◌<◌, ◌≤◌, ◌^◌, true, List, [], ◌∷◌, length, map, take, Option, Some, None, Ok}
 use Rattle.std.specs.List.{AllByRecursion}
 use Rattle.mu_model_image.specs.declared.Meta.{Meta}
 use Rattle.mu_model_image.specs.Meta.{Image, IsMeta, meta_octets, firmware_id, own_company}
@@ -17,7 +17,7 @@ use Rattle.mu_model_client.specs.Client.{rows}
 use Rattle.mu_model_client.specs.Packets.{request_packet}
 use Rattle.mu_model_client.specs.Rows.{Row, is_reported, apply_success, apply_failed, phase_unknown}
 use Rattle.mu_model_client_laws.specs.Asked.{HasReceiver, receivers_of}
-use Rattle.mu_model_updater.specs.Updater.{Updater, new_updater, updater_step, updater_after, sent_in, starts_in, Heard, heard_in}
+use Rattle.mu_model_updater.specs.Updater.{Updater, new_updater, UpdaterLine, first_image, plan_of, updater_step, updater_after, sent_in, starts_in, Heard, heard_in}
 
 -- ---- rows
 
@@ -98,6 +98,19 @@ pub record IsInRange (plan : Plan) (receivers : List (ℕ × ℕ)) : Type 0 wher
   pub meta : IsMeta plan.meta
   pub indexes : AllByRecursion (λ (receiver : ℕ × ℕ). receiver.1 < 2 ^ 8) receivers
 
+-- so is what a line of a script says (this profile)
+pub record IsScriptLine (line : UpdaterLine) : Type 0 where
+  pub address : line.address < 2 ^ 15
+  pub id : line.id < 2 ^ 48
+  pub ttl : line.ttl < 2 ^ 8
+  pub base : line.base < 2 ^ 16
+  pub version : line.version < 2 ^ 32
+  pub content_least : 0 < length line.content
+  pub content_most : length line.content ≤ 1048576
+
+abbrev pub LinesAreInRange : Type 0
+LinesAreInRange = (line : UpdaterLine) → IsScriptLine line → IsInRange (plan_of line) (map first_image line.receivers)
+
 -- an Update Start that was sent to this address
 abbrev pub HasStart : List (ℕ × UpdateStart) → ℕ → UpdateStart → Type 0
 HasStart [] to u = ⊥
@@ -112,6 +125,16 @@ abbrev pub StartsAreRead : Type 0
 StartsAreRead =
     (plan : Plan) (image : Image) (to : List (ℕ × ℕ)) (run : List (NodeEvent × ℕ)) → IsInRange plan to
     → AllByRecursion (λ (p : Packet). IsStartOf (starts_in (new_updater plan image to) run) p.to (request_at p.payload)) (sent_in (new_updater plan image to) run)
+
+-- so what a node reads as an Update Start is the plan's
+abbrev pub IsOfferedAs : Plan → List (ℕ × ℕ) → ℕ → Option Request → Type 0
+IsOfferedAs plan receivers to (Some (OfUpdate (StartUpdate u))) = IsOffered plan receivers to u
+IsOfferedAs plan receivers to _ = Unit {0}
+
+abbrev pub ReadStartsAreOffered : Type 0
+ReadStartsAreOffered =
+    (plan : Plan) (image : Image) (to : List (ℕ × ℕ)) (run : List (NodeEvent × ℕ)) → IsInRange plan to
+    → AllByRecursion (λ (p : Packet). IsOfferedAs plan to p.to (request_at p.payload)) (sent_in (new_updater plan image to) run)
 
 -- ---- nothing else
 
