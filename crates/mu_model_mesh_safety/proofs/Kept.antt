@@ -14,6 +14,7 @@ use Rattle.mu_model_client.specs.declared.Plan.{Plan}
 use Rattle.mu_model_distributor.specs.DistState.{DistDurable}
 use Rattle.mu_model_distributor.specs.declared.DistPhase.TheVariants.{Idle}
 use Rattle.mu_model_distributor.specs.Runs.{state_after as dist_state_after}
+use Rattle.mu_model_distributor_laws.specs.Starts.{IsUnused}
 use Rattle.mu_model_fates.specs.Laws.{come_in}
 use Rattle.mu_model_offers.specs.Laws.{Run, IsRun, begin_of}
 use Rattle.mu_model_offers.specs.Packets.{packets_of}
@@ -64,8 +65,8 @@ pub record UpdaterRun (bag : List Packet) (address : ℕ) (u : UpdaterMember) : 
   pub come : AreIn bag (updater_come_in run)
   pub sent : SentBy bag address (updater_sent_in (new_updater plan image to) run)
 
--- a distributor as it is made and stocked: nothing was distributed
-pub record IsUnused (d : DistDurable) : Type 0 where
+-- as a distributor is made and stocked: nothing was distributed
+pub record IsIdle (d : DistDurable) : Type 0 where
   pub phase : d.phase ≡ Idle
   pub counter : d.counter ≡ 0
   pub receivers : d.receivers ≡ []
@@ -74,7 +75,7 @@ pub record DistributorRun (bag : List Packet) (address : ℕ) (d : DistributorMe
   pub run : Run
   pub own : run.address ≡ address
   pub is : IsRun run
-  pub unused : IsUnused run.durable
+  pub idle : IsIdle run.durable
   pub state : d.state ≡ dist_state_after address (begin_of run) run.happenings
   pub come : AreIn bag (come_in run.happenings)
   pub sent : SentBy bag address (packets_of run)
@@ -109,6 +110,4 @@ pub record Kept (m : Mesh) : Type 0 where
   pub padded : length m.transfers ≡ length m.nodes.bag
   -- among the member lines nothing has happened
   pub early : m.nodes.begun ≡ false → m.nodes.bag ≡ []
-  pub unused :
-      m.nodes.begun ≡ false → (address : ℕ) (d : DistributorMember) → distributor_at m address ≡ Some d
-      → (r : Run) × (d.state ≡ begin_of r) × (r.address ≡ address) × IsRun r × IsUnused r.durable
+  pub unused : m.nodes.begun ≡ false → (address : ℕ) (d : DistributorMember) → distributor_at m address ≡ Some d → IsUnused address d.state
