@@ -2,6 +2,7 @@ pub mod Cases
 pub mod Rising
 pub mod Fated
 pub mod Plans
+pub mod Asked
 pub mod Sound
 pub mod Chunks
 pub mod Worked
@@ -9,5 +10,6 @@ pub mod WorkedInitiator
 pub mod Fields
 pub mod Gone
 pub mod Wire
+pub mod Opcodes
 pub mod Heard
 pub mod Named

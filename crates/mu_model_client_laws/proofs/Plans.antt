@@ -17,8 +17,8 @@ use Rattle.mu_model_client_laws.proofs.Fated as f
 
 -- a change of receivers that keeps addresses and indexes
 pub record Keeps (g : Receiver → Receiver) : Type 0 where
-  address : (r : Receiver) → (g r).row.address ≡ r.row.address
-  index : (r : Receiver) → (g r).row.index ≡ r.row.index
+  pub address : (r : Receiver) → (g r).row.address ≡ r.row.address
+  pub index : (r : Receiver) → (g r).row.index ≡ r.row.index
 
 addresses : (g : Receiver → Receiver) → Keeps g → (rs : List Receiver) → map (λ (row : Row). row.address) (map row_of (map g rs)) ≡ map (λ (row : Row). row.address) (map row_of rs)
 addresses g h [] = refl
@@ -81,7 +81,7 @@ begun_kept : (r : Receiver) (is_in_it : Bool) → ((d.begun_if r is_in_it).row �
 begun_kept r true = refl
 begun_kept r false = refl
 
-begun_keeps : (step : Step) → Keeps (d.begun step)
+pub begun_keeps : (step : Step) → Keeps (d.begun step)
 begun_keeps step = record { address = λ r. ap (λ (row : Row). row.address) (begun_kept r (is_in step r)); index = λ r. ap (λ (row : Row). row.index) (begun_kept r (is_in step r)) }
 
 pub record SameEnds (r s : Receiver) : Type 0 where
@@ -115,7 +115,7 @@ counted_kept : (step : Step) (r : Receiver) (pending : Bool) → SameEnds r (d.c
 counted_kept step r true = silent_kept step r (d.silent_after step r) (nat_le 5 (d.silent_after step r))
 counted_kept step r false = record { address = refl; index = refl }
 
-counted_keeps : (step : Step) → Keeps (d.round_counted step)
+pub counted_keeps : (step : Step) → Keeps (d.round_counted step)
 counted_keeps step = record { address = λ r. (counted_kept step r r.pending).address; index = λ r. (counted_kept step r r.pending).index }
 
 counting_plan : (c : Client) (step : Step) → SamePlan c (d.after_counting c step)

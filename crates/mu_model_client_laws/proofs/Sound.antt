@@ -2,6 +2,7 @@
 use Rattle.std.proofs.Common.{◌≡◌, ◌⊎◌, inl, inr, ap, ◌≤◌, ◌+◌, ◌==◌, ℕ, List, [], ◌∷◌, refl, sym, ◌∙◌, subst, true, false, Bool, Option, Some, None, arith, map}
 use Rattle.std.specs.Prelude.{nat_le, nat_lt, if◌then◌else◌}
 use Rattle.std.specs.List.{AllByRecursion}
+use Rattle.std.proofs.lemmas.Bool.{eqb-true}
 use Rattle.std.proofs.lemmas.Bool.Decides.{nat_tests}
 use Rattle.mu_model_client.specs.Answers.{Answer}
 use Rattle.mu_model_client.specs.Rows.{Row, row_after, rank, with_phase}
@@ -12,7 +13,7 @@ use Rattle.mu_model_client.specs.Told as t
 use Rattle.mu_model_client.specs.Told.{told}
 use Rattle.mu_model_client.specs.Due as d
 use Rattle.mu_model_client.specs.Due.{Due, due}
-use Rattle.mu_model_client_laws.specs.Laws.{Each, IsVerdict, RowRises, RankRises, StandsAsBefore, AsBefore, TimeChanges, nothing, fifth, may_pend, IsAsked, IsSound, BeginSound, EventsSound}
+use Rattle.mu_model_client_laws.specs.Laws.{Each, phase_said, FollowsPacket, IsVerdict, RowRises, RankRises, StandsAsBefore, AsBefore, TimeChanges, nothing, fifth, may_pend, IsAsked, IsSound, BeginSound, EventsSound}
 use Rattle.mu_model_client_laws.proofs.Cases.{IsCounted, Counted, counted_as, Ways, each_way}
 use Rattle.mu_model_client_laws.proofs.Fated as f
 use Rattle.mu_model_client_laws.proofs.Rising.{Rises, same_rises, cause_rises, of_answer, both_left, rank_most}
@@ -72,6 +73,26 @@ told_rises c answer r false = record { rank_kept = omega arith; verdict_kept = �
 pub rows_rise : (c : Client) (from : ℕ) (answer : Answer) (now : ℕ) → Each RowRises c.receivers (told c from answer now).receivers
 rows_rise c from answer now =
     each_map RowRises (λ r. t.told_if c answer r (r.row.address == from)) (λ r. told_rises c answer r (r.row.address == from)) c.receivers
+
+-- ---- what a packet says
+
+said_phase : (p : Sending) (answer : Answer) (r : Receiver) (purpose : Purpose) → (t.row_told p answer r purpose).row.phase ≡ phase_said p.id purpose r.row answer
+said_phase p answer r Blob = refl
+said_phase p answer r (Update offered apply) = refl
+
+told_follows : (c : Client) (from : ℕ) (answer : Answer) (r : Receiver) (is_from : Bool) → (r.row.address == from) ≡ is_from → FollowsPacket c from answer r (t.told_if c answer r is_from)
+told_follows c from answer r true e =
+    let x : Receiver = t.row_told c.sending answer r c.purpose in
+    let phase = (f.by_place x c.sending answer c.place).phase in
+    record { theirs = λ k. phase ∙ said_phase c.sending answer r c.purpose; others = λ k. absurd (k (eqb-true r.row.address from e)) }
+told_follows c from answer r false e = record { theirs = λ k. absurd (not_same k); others = λ k. refl }
+  where
+    not_same : r.row.address ≡ from → ⊥
+    not_same k = grind (arith, nat_tests)
+
+pub rows_follow : (c : Client) (from : ℕ) (answer : Answer) (now : ℕ) → Each (FollowsPacket c from answer) c.receivers (told c from answer now).receivers
+rows_follow c from answer now =
+    each_map (FollowsPacket c from answer) (λ r. t.told_if c answer r (r.row.address == from)) (λ r. told_follows c from answer r (r.row.address == from) refl) c.receivers
 
 -- ---- soundness
 

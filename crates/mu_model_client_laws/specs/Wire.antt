@@ -1,5 +1,7 @@
 -- A client's messages on the wire: a node reads what a client writes.
-use Rattle.std.specs.Prelude.{ℕ, ◌≡◌, ◌<◌, ◌≤◌, ◌^◌, length, Option, Some, None}
+use Rattle.std.specs.Prelude.{ℕ, ◌≡◌, ◌<◌, ◌≤◌, ◌^◌, length, Option, Some, None, Ok}
+use Rattle.mu_model_wire.specs.Fields.{Message}
+use Rattle.mu_model_wire.specs.Reading.{message_at}
 use Rattle.mu_model_wire.specs.Spelling.{Fits}
 use Rattle.mu_model_wire.specs.Table.{rows}
 use Rattle.mu_model_node.specs.declared.Parameters.{Parameters}
@@ -7,7 +9,7 @@ use Rattle.mu_model_node.specs.BlobMessages.{BlobRequest, TransferStart, Transfe
 use Rattle.mu_model_node.specs.UpdateMessages.{UpdateStart, UpdateRequest, InformationGet, MetadataCheck, StartUpdate, UpdateReply, UpdateStatus}
 use Rattle.mu_model_node.specs.NodeMessages.{Request, OfUpdate, OfBlob, request_at, Reply, ByUpdate, ByBlob, message_of, reply_octets}
 use Rattle.mu_model_client.specs.Answers.{answer_at, heard}
-use Rattle.mu_model_client.specs.Packets.{request_octets}
+use Rattle.mu_model_client.specs.Packets.{request_message, request_octets}
 
 -- ---- the ranges of the grammar
 
@@ -50,6 +52,14 @@ InRange (OfBlob request) = BlobInRange request
 -- a node reads the octets of a client's message as that message
 abbrev pub RequestsAreRead : Type 0
 RequestsAreRead = (request : Request) → InRange request → request_at (request_octets request) ≡ Some request
+
+-- whatever its numbers are, these octets are read as a message of its kind or as none
+abbrev pub RequestsKeepTheirOpcodes : Type 0
+RequestsKeepTheirOpcodes = (request : Request) (m : Message) → message_at rows (request_octets request) ≡ Ok m → m.opcode ≡ (request_message request).opcode
+
+-- so no client takes them for an answer
+abbrev pub RequestsAreNoAnswers : Type 0
+RequestsAreNoAnswers = (request : Request) → answer_at (request_octets request) ≡ None
 
 -- ---- and a client reads what a node replies
 

@@ -2,8 +2,9 @@
 
 ghost use Rattle.mu_model_client_laws.specs.Worked.{RepairsTheUnion, Completes, DropsTheSilent, DropsByStatus, DropsOthers, GoesOn};
 ghost use Rattle.mu_model_client_laws.specs.WorkedInitiator.{Initiates};
-ghost use Rattle.mu_model_client_laws.specs.Wire.{RequestsAreRead, RepliesAreRead};
-ghost use Rattle.mu_model_client_laws.specs.Laws.{AtMostSixteen, FieldsAreRead, NamedSetsAreReported, NamedSetsAreRead, PlansStay, TimeKeepsRanks, CancellingKeepsRanks, RowsRise, RowsChangeByCause, TimeChangesAtFive, ApplyingDropsNobody, DropsStay, GroupGetsTheUnion, EachGetsWhatItMisses, StepsSendTheirLists, BeginsSound, EventsKeepSound, ListsGoToActive};
+ghost use Rattle.mu_model_client_laws.specs.Wire.{RequestsAreRead, RequestsKeepTheirOpcodes, RequestsAreNoAnswers, RepliesAreRead};
+ghost use Rattle.mu_model_client_laws.specs.Asked.{ClientsSendTheirPlans};
+ghost use Rattle.mu_model_client_laws.specs.Laws.{AtMostSixteen, FieldsAreRead, NamedSetsAreReported, NamedSetsAreRead, PlansStay, TimeKeepsRanks, CancellingKeepsRanks, RowsRise, RowsChangeByCause, RowsFollowPackets, TimeChangesAtFive, ApplyingDropsNobody, DropsStay, GroupGetsTheUnion, EachGetsWhatItMisses, StepsSendTheirLists, BeginsSound, EventsKeepSound, ListsGoToActive};
 
 use mu_model_wire::laws::{canonical_is_read, grammar_holds};
 
@@ -14,6 +15,12 @@ pub fn requests_are_read()
     grammar_holds();
     canonical_is_read();
 }
+
+/// What a client writes, in the ranges of the grammar or not, is read as a message of its kind or as none, and never as an answer.
+pub fn requests_are_no_answers()
+    ensures opcodes { RequestsKeepTheirOpcodes }
+    ensures answers { RequestsAreNoAnswers }
+{}
 
 /// A client reads what a node replies.
 pub fn replies_are_read()
@@ -39,18 +46,24 @@ pub fn plans_stay()
     ensures { PlansStay }
 {}
 
+/// What a client sends, and what it leaves to be sent, is its plan.
+pub fn plans_are_sent()
+    ensures { ClientsSendTheirPlans }
+{}
+
 /// A time event sends at most 16 packets.
 pub fn few_packets()
     ensures { AtMostSixteen }
 {}
 
 /// A row's rank never falls; each change of its phase has its cause, and Transfer Canceled, Apply Failed and Phase Unknown are
-/// verdicts.
+/// verdicts. A packet changes its source's rows alone, and as it says.
 pub fn rows()
     ensures rise { RowsRise }
     ensures time { TimeKeepsRanks }
     ensures cancelled { CancellingKeepsRanks }
     ensures causes { RowsChangeByCause }
+    ensures follow { RowsFollowPackets }
 {}
 
 /// Nobody is dropped as Silent before five silent rounds of a step, and nobody at all for silence while applying or cancelling.

@@ -66,6 +66,11 @@ restarted address d = client_begun address (record {
   moment = 0;
 })
 
+-- where no event has come yet: as after a boot, which has no fresh slot, or as a new distributor is, whose run made its last record and
+-- may still use so many slots after it
+abbrev pub live : ℕ → DistDurable → (fresh : ℕ) → DistState
+live address d fresh = record (restarted address d) { fresh = fresh }
+
 -- ---- events
 
 -- the state after an event, the messages that are sent, each with its destination, and their packets, whether the event was

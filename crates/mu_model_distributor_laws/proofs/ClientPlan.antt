@@ -41,7 +41,7 @@ abbrev pub Packets : Sending → Purpose → List Row → List (ℕ × Request) 
 Packets p purpose given packets = AllByRecursion (λ (x : ℕ × Request). IsAsked p purpose given x.0 x.1) packets
 
 update_within : (p : Sending) (purpose : Purpose) (given other : List Row) (to : ℕ) (request : UpdateRequest) → Within given other → IsAsked p purpose given to (OfUpdate request) → IsAsked p purpose other to (OfUpdate request)
-update_within p purpose given other to (StartUpdate u) w h = record { id = h.id; metadata = h.metadata; receiver = w to u.index h.receiver }
+update_within p purpose given other to (StartUpdate u) w h = record { ttl = h.ttl; base = h.base; id = h.id; metadata = h.metadata; receiver = w to u.index h.receiver }
 update_within p purpose given other to (InformationGet first limit) w h = tt
 update_within p purpose given other to (MetadataCheck index metadata) w h = tt
 update_within p purpose given other to UpdateGet w h = tt
@@ -94,7 +94,7 @@ messages_right p purpose given message (r ∷ rs) says w =
 
 step_right : (p : Sending) (purpose : Purpose) (step : Step) → SaysRight p purpose (step_message p purpose step)
 step_right p purpose Check given r h = (tt, tt)
-step_right p purpose Start given r h = (record { id = refl; metadata = refl; receiver = h }, tt)
+step_right p purpose Start given r h = (record { ttl = refl; base = refl; id = refl; metadata = refl; receiver = h }, tt)
 step_right p purpose Information given r h = (tt, tt)
 step_right p purpose Transfer given r h = (tt, tt)
 step_right p purpose (Block b) given r h = (tt, tt)

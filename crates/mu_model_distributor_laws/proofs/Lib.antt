@@ -20,9 +20,11 @@ pub mod ClientPlan
 pub mod Planned
 pub mod Offered
 pub mod RowMoves
+pub mod Rests
 pub mod Counters
 pub mod RunLaws
 pub mod Records
+pub mod Starts
 pub mod RowsTold
 pub mod Stands
 pub mod Lists

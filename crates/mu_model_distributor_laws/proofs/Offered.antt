@@ -45,12 +45,12 @@ use Rattle.mu_model_distributor_laws.proofs.Moved.{has_rows}
 use Rattle.mu_model_distributor_laws.proofs.Planned.{own_plan, planned_at}
 use Rattle.mu_model_distributor_laws.proofs.Steps.{moved}
 
-abbrev Offers : ℕ → DistDurable → List (ℕ × Sent) → Type 0
+abbrev pub Offers : ℕ → DistDurable → List (ℕ × Sent) → Type 0
 Offers address d sends = AllByRecursion (IsSentAs address d) sends
 
 -- ---- what isn't the client's
 
-blob_offers : (address : ℕ) (d : DistDurable) (replies : List (ℕ × BlobReply)) → Offers address d (map by_blob replies)
+pub blob_offers : (address : ℕ) (d : DistDurable) (replies : List (ℕ × BlobReply)) → Offers address d (map by_blob replies)
 blob_offers address d [] = tt
 blob_offers address d (reply ∷ replies) = (tt, blob_offers address d replies)
 
@@ -103,6 +103,8 @@ row_received (row ∷ given) to index (inr h) = inr (row_received given to index
 
 update_offered : (address : ℕ) (d : DistDurable) (c : Client) (given : List Row) (to : ℕ) (request : UpdateRequest) → DoesPlan address d c → InReceivers given d.receivers → IsAsked c.sending c.purpose given to (OfUpdate request) → IsSentAs address d (to, ByClient (OfUpdate request))
 update_offered address d c given to (StartUpdate u) h w k = record {
+  ttl = k.ttl ∙ ap (λ (p : Sending). p.ttl) h.sending;
+  base = k.base ∙ ap (λ (p : Sending). p.base) h.sending;
   id = k.id ∙ ap (λ (p : Sending). p.id) h.sending;
   metadata = k.metadata ∙ ap metadata_of h.purpose;
   receiver = w to u.index k.receiver;
@@ -281,7 +283,7 @@ time_offers address s NoUpload h k = waits_offer address s (on_server_time (serv
 time_offers address s (Broken job) h k = waits_offer address s (on_server_time (server_of s) (server_of s).serving) h k
 time_offers address s Uploaded h k = waits_offer address s (on_server_time (server_of s) (server_of s).serving) h k
 
-packet_offers : (address : ℕ) (d : DistDurable) (s : DistState) (from : ℕ) (taken : Option Taken) → Offers address d (on_packet address s from taken).sends
+pub packet_offers : (address : ℕ) (d : DistDurable) (s : DistState) (from : ℕ) (taken : Option Taken) → Offers address d (on_packet address s from taken).sends
 packet_offers address d s from (Some taken) = taken_offers address d s from taken
 packet_offers address d s from None = tt
 

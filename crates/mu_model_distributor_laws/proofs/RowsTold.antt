@@ -16,16 +16,16 @@ use Rattle.mu_model_client.specs.Answers.{Answer, FromUpdate, FromBlob}
 use Rattle.mu_model_client.specs.Rows.{Row, is_reported, rank, phase_reported, phase_shown, row_after}
 use Rattle.mu_model_distributor.specs.Requests.{Entry}
 use Rattle.mu_model_distributor.specs.DistMessages.{Taken, OfReceiver, taken_at}
-use Rattle.mu_model_distributor.specs.DistState.{Receiver, DistDurable, DistState, transfer_id, offered, receiver_of}
+use Rattle.mu_model_distributor.specs.DistState.{Receiver, DistDurable, DistState, is_at_rest, transfer_id, offered, receiver_of}
 use Rattle.mu_model_distributor.specs.Receivers.{has_address, new_receiver, added}
 use Rattle.mu_model_distributor.specs.Distribution.{meta_of, renewed}
-use Rattle.mu_model_distributor.specs.DistEvents.{dist_step, restarted}
+use Rattle.mu_model_distributor.specs.DistEvents.{dist_step, live}
 use Rattle.mu_model_distributor.specs.Runs.{happened, state_after}
 use Rattle.mu_model_distributor_laws.specs.RowMoves.{Each, Says, RowChange, stands, told as by_answer, canceled, unconfirmed, RowMoves, ReceiversMove, begins, adds, empties, moves}
 use Rattle.mu_model_distributor_laws.specs.RunLaws.{HappeningFits, IsInOrder}
 use Rattle.mu_model_distributor_laws.specs.RowsTold.{Heard, heard_as, heard_event, heard_by, heard_in, InOrder, none, here, later, HasFound, ToldPhase, ToldSuccess, ShownSince, Told, verdict, found, told, shown, shown_since, RowsAreToldIn, RowsAreTold}
 use Rattle.mu_model_distributor_laws.proofs.RowMoves.{rows_move}
-use Rattle.mu_model_distributor_laws.proofs.RunLaws.{left_is, booted, happens}
+use Rattle.mu_model_distributor_laws.proofs.RunLaws.{left_is, begun, happens}
 
 -- ---- order
 
@@ -143,29 +143,29 @@ answered d id number old row b answer offer at ind (was_shown count more e repor
 
 -- ---- an event
 
-heard_once : (address : ℕ) (d : DistDurable) (packet : Packet) (from : ℕ) (answer : Answer) (b : Bool) (taken : Option Taken) → b ≡ true → taken ≡ Some (OfReceiver answer) → cond b (heard_as address d from taken) [] ≡ record { from = from; answer = answer; id = transfer_id address d; offer = meta_of (offered d) } ∷ []
-heard_once address d packet from answer b taken e k = rw (e, k) refl
+heard_once : (address : ℕ) (d : DistDurable) (packet : Packet) (from : ℕ) (answer : Answer) (b : Bool) (taken : Option Taken) → b ≡ true → taken ≡ Some (OfReceiver answer) → is_at_rest d.phase ≡ false → cond b (heard_as address d from taken) [] ≡ record { from = from; answer = answer; id = transfer_id address d; offer = meta_of (offered d) } ∷ []
+heard_once address d packet from answer b taken e k busy = rw (e, k, busy) refl
 
 eq_true : (a b : ℕ) → a ≡ b → (a == b) ≡ true
 eq_true a b e = grind (arith, nat_tests)
 
-heard_is : (address : ℕ) (d : DistDurable) (event : NodeEvent) (from : ℕ) (answer : Answer) → Says address event from (OfReceiver answer) → heard_event address d event ≡ record { from = from; answer = answer; id = transfer_id address d; offer = meta_of (offered d) } ∷ []
-heard_is address d (PacketComes packet) from answer says =
-    heard_once address d packet packet.from answer (packet.to == address) (taken_at packet.payload) (eq_true packet.to address says.0) says.2
+heard_is : (address : ℕ) (d : DistDurable) (event : NodeEvent) (from : ℕ) (answer : Answer) → is_at_rest d.phase ≡ false → Says address event from (OfReceiver answer) → heard_event address d event ≡ record { from = from; answer = answer; id = transfer_id address d; offer = meta_of (offered d) } ∷ []
+heard_is address d (PacketComes packet) from answer busy says =
+    heard_once address d packet packet.from answer (packet.to == address) (taken_at packet.payload) (eq_true packet.to address says.0) says.2 busy
     ∙ ap (λ x. record { from = x; answer = answer; id = transfer_id address d; offer = meta_of (offered d) } ∷ []) says.1
-heard_is address d TimeComes from answer says = absurd says
+heard_is address d TimeComes from answer busy says = absurd says
 
-row_told_by : (address : ℕ) (found_one d : DistDurable) (event : NodeEvent) (old : List Heard) (row : Row) (b : Receiver) (answer : Answer) → Says address event row.address (OfReceiver answer) → b.address ≡ row.address → b.index ≡ row.index → b.phase ≡ (row_after (transfer_id address d) (meta_of (offered d)) row answer).phase → Told found_one (transfer_id address d) d.counter old (receiver_of row) → Told found_one (transfer_id address d) d.counter (old ++ heard_event address d event) b
-row_told_by address found_one d event old row b answer says at ind of h =
+row_told_by : (address : ℕ) (found_one d : DistDurable) (event : NodeEvent) (old : List Heard) (row : Row) (b : Receiver) (answer : Answer) → is_at_rest d.phase ≡ false → Says address event row.address (OfReceiver answer) → b.address ≡ row.address → b.index ≡ row.index → b.phase ≡ (row_after (transfer_id address d) (meta_of (offered d)) row answer).phase → Told found_one (transfer_id address d) d.counter old (receiver_of row) → Told found_one (transfer_id address d) d.counter (old ++ heard_event address d event) b
+row_told_by address found_one d event old row b answer busy says at ind of h =
     let cause : Cause (transfer_id address d) (meta_of (offered d)) row answer b.phase = subst (Cause (transfer_id address d) (meta_of (offered d)) row answer) (sym of) (cause_of (transfer_id address d) (meta_of (offered d)) row answer) in
     let k = answered found_one (transfer_id address d) d.counter old row b answer (meta_of (offered d)) at ind cause h in
-    subst (λ (heard : List Heard). Told found_one (transfer_id address d) d.counter (old ++ heard) b) (sym (heard_is address d event row.address answer says)) k
+    subst (λ (heard : List Heard). Told found_one (transfer_id address d) d.counter (old ++ heard) b) (sym (heard_is address d event row.address answer busy says)) k
 
 row_moved : (address : ℕ) (found_one d : DistDurable) (event : NodeEvent) (old : List Heard) (a b : Receiver) → b.address ≡ a.address → b.index ≡ a.index → RowChange address d event a b → Told found_one (transfer_id address d) d.counter old a → Told found_one (transfer_id address d) d.counter (old ++ heard_event address d event) b
 row_moved address found_one d event old a b at ind (stands e) h = told_more found_one _ _ old _ b (same_row found_one _ _ old a b at ind e h)
-row_moved address found_one d event old a b at ind (by_answer row answer same says of) h =
+row_moved address found_one d event old a b at ind (by_answer row answer busy same says of) h =
     let own : Told found_one (transfer_id address d) d.counter old (receiver_of row) = subst (Told found_one (transfer_id address d) d.counter old) (sym same) h in
-    row_told_by address found_one d event old row b answer (subst (λ (r : Receiver). Says address event r.address (OfReceiver answer)) (sym same) says) (subst (λ (r : Receiver). b.address ≡ r.address) (sym same) at) (subst (λ (r : Receiver). b.index ≡ r.index) (sym same) ind) of own
+    row_told_by address found_one d event old row b answer busy (subst (λ (r : Receiver). Says address event r.address (OfReceiver answer)) (sym same) says) (subst (λ (r : Receiver). b.address ≡ r.address) (sym same) at) (subst (λ (r : Receiver). b.index ≡ r.index) (sym same) ind) of own
 row_moved address found_one d event old a b at ind (canceled from says low of) h = verdict (inl of)
 row_moved address found_one d event old a b at ind (unconfirmed e not of) h = verdict (inr (inl of))
 
@@ -227,5 +227,5 @@ run_told law address found_one s (x ∷ hs) old fits k h =
     subst (λ (heard : List Heard). RowsAreToldIn address found_one heard (state_after address (happened address s x) hs).durable) (append_assoc old (heard_by address s.durable x) (heard_in address (happened address s x) hs)) next
 
 pub rows_are_told : RequestsKeepStatesSound → RowsAreTold
-rows_are_told law address d hs h fits =
-    run_told law address d (restarted address d) hs [] fits (booted address d h) (found_rows d (transfer_id address d) [] d.receivers (λ a i p x. x))
+rows_are_told law address d fresh hs h few fits =
+    run_told law address d (live address d fresh) hs [] fits (begun address d fresh h few) (found_rows d (transfer_id address d) [] d.receivers (λ a i p x. x))

@@ -11,7 +11,7 @@ use Rattle.mu_model_node.specs.Safe.{Happening, Done, CutPower, Torn}
 use Rattle.mu_model_node.specs.Laws.{RequestsKeepStatesSound}
 use Rattle.mu_model_distributor.specs.DistMessages.{Sent, ByDistribution, ByBlob, ByClient}
 use Rattle.mu_model_distributor.specs.DistState.{DistDurable, DistState}
-use Rattle.mu_model_distributor.specs.DistEvents.{dist_step, dist_work, restarted}
+use Rattle.mu_model_distributor.specs.DistEvents.{dist_step, dist_work, restarted, live}
 use Rattle.mu_model_distributor.specs.Runs.{left_after, happened, state_after}
 use Rattle.mu_model_distributor.specs.Sound.{IsDistDurable}
 use Rattle.mu_model_distributor_laws.specs.Planned.{IsSentAs}
@@ -44,6 +44,15 @@ left_is P address s event now operations h k =
 pub booted : (address : ℕ) (d : DistDurable) → IsDistDurable d → IsInOrder address (restarted address d)
 booted address d h = record { sound = boots_are_sound address d h; planned = boots_plan address d }
 
+-- of fresh slots nothing but their bound is asked
+pub begun : (address : ℕ) (d : DistDurable) (fresh : ℕ) → IsDistDurable d → fresh ≤ 3 → IsInOrder address (live address d fresh)
+begun address d fresh h few =
+    let k = booted address d h in
+    record {
+      sound = record { durable = h; fresh = few; current = k.sound.current; client = k.sound.client; progress = k.sound.progress; percents = k.sound.percents };
+      planned = k.planned;
+    }
+
 pub happens : RequestsKeepStatesSound → (address : ℕ) (s : DistState) (h : Happening) → HappeningFits h → IsInOrder address s → IsInOrder address (happened address s h)
 happens law address s (Done event now) fits k = record { sound = events_keep law address s event now fits k.sound; planned = events_plan address s event now fits k.sound k.planned }
 happens law address s CutPower fits k = booted address s.durable k.sound.durable
@@ -54,7 +63,7 @@ run_in_order law address s [] fits k = k
 run_in_order law address s (h ∷ hs) fits k = run_in_order law address (happened address s h) hs fits.1 (happens law address s h fits.0 k)
 
 pub runs_are_in_order : RequestsKeepStatesSound → RunsAreInOrder
-runs_are_in_order law address d hs h fits = run_in_order law address (restarted address d) hs fits (booted address d h)
+runs_are_in_order law address d fresh hs h few fits = run_in_order law address (live address d fresh) hs fits (begun address d fresh h few)
 
 -- ---- numbers
 
@@ -111,4 +120,4 @@ run_behind law address s (h ∷ hs) fits k =
     (run_behind law address (happened address s h) hs fits.1 (happens law address s h fits.0 k))
 
 pub no_number_is_lost : RequestsKeepStatesSound → NoNumberIsLost
-no_number_is_lost law address d hs h fits = run_behind law address (restarted address d) hs fits (booted address d h)
+no_number_is_lost law address d fresh hs h few fits = run_behind law address (live address d fresh) hs fits (begun address d fresh h few)

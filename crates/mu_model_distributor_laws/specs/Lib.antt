@@ -1,7 +1,9 @@
 pub mod Laws
 pub mod Planned
 pub mod RowMoves
+pub mod Rests
 pub mod RunLaws
+pub mod Starts
 pub mod RowsTold
 pub mod Lists
 pub mod Scenes

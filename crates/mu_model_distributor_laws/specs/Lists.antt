@@ -1,5 +1,5 @@
 -- What the Receivers Lists of a distributor say, read from their octets: rows as they stand.
-use Rattle.std.specs.Prelude.{ℕ, ◌≡◌, ◌*◌, ◌==◌, List, map, take, drop, Option, Some, None, Result, Ok, Err, if◌then◌else◌}
+use Rattle.std.specs.Prelude.{ℕ, ◌≡◌, ◌≤◌, ◌*◌, ◌==◌, List, map, take, drop, Option, Some, None, Result, Ok, Err, if◌then◌else◌}
 use Rattle.std.specs.List.{AllByRecursion}
 use Rattle.mu_model_wire.specs.Fields.{Shown, Message}
 use Rattle.mu_model_wire.specs.Names.{address, index, phase, update_status, transfer_status, progress}
@@ -12,7 +12,7 @@ use Rattle.mu_model_node.specs.Safe.{Happening}
 use Rattle.mu_model_client.specs.Rows.{Row}
 use Rattle.mu_model_distributor.specs.DistState.{DistDurable, DistState, transfer_id, rows_of, receiver_of}
 use Rattle.mu_model_distributor.specs.Receivers.{rounded}
-use Rattle.mu_model_distributor.specs.DistEvents.{dist_step, restarted}
+use Rattle.mu_model_distributor.specs.DistEvents.{dist_step, live}
 use Rattle.mu_model_distributor.specs.Runs.{state_after}
 use Rattle.mu_model_distributor.specs.Sound.{IsDistDurable, IsDistState}
 use Rattle.mu_model_distributor_laws.specs.Laws.{EventFits}
@@ -56,17 +56,17 @@ ListsShowRows =
     → AllByRecursion (λ (p : Packet). ShowsRows s (list_at p.payload)) (dist_step from s event now).sent
 
 -- each row of a list is as its receiver told it of the present distribution
-abbrev pub TellsRows : ℕ → DistDurable → List Happening → Option (List Row) → Type 0
-TellsRows from d hs None = Unit {0}
-TellsRows from d hs (Some shown) =
+abbrev pub TellsRows : ℕ → DistDurable → (fresh : ℕ) → List Happening → Option (List Row) → Type 0
+TellsRows from d fresh hs None = Unit {0}
+TellsRows from d fresh hs (Some shown) =
     AllByRecursion (λ row. Told d
-    (transfer_id from (state_after from (restarted from d) hs).durable)
-    (state_after from (restarted from d) hs).durable.counter
-    (heard_in from (restarted from d) hs)
+    (transfer_id from (state_after from (live from d fresh) hs).durable)
+    (state_after from (live from d fresh) hs).durable.counter
+    (heard_in from (live from d fresh) hs)
     (receiver_of row)) shown
 
 abbrev pub ListsAreTold : Type 0
 ListsAreTold =
-    (from : ℕ) (d : DistDurable) (hs : List Happening) (event : NodeEvent) (now : ℕ)
-    → IsDistDurable d → AllByRecursion HappeningFits hs → EventFits event
-    → AllByRecursion (λ (p : Packet). TellsRows from d hs (list_at p.payload)) (dist_step from (state_after from (restarted from d) hs) event now).sent
+    (from : ℕ) (d : DistDurable) (fresh : ℕ) (hs : List Happening) (event : NodeEvent) (now : ℕ)
+    → IsDistDurable d → fresh ≤ 3 → AllByRecursion HappeningFits hs → EventFits event
+    → AllByRecursion (λ (p : Packet). TellsRows from d fresh hs (list_at p.payload)) (dist_step from (state_after from (live from d fresh) hs) event now).sent

@@ -1,5 +1,5 @@
 -- What a distributor's client sends is what the distribution offers: its Update Starts have the distribution's BLOB ID, whose number is
--- the counter in each record that a cut may leave, the offered image's metadata, and each receiver's index.
+-- the counter in each record that a cut may leave, its TTL and timeout, the offered image's metadata, and each receiver's index.
 use Rattle.std.specs.Prelude.{ℕ, ◌≡◌, ◌⊎◌, ◌≤◌, List, [], ◌∷◌, MatchOption}
 use Rattle.std.specs.List.{AllByRecursion}
 use Rattle.mu_model_image.specs.Meta.{meta_octets}
@@ -27,6 +27,8 @@ HasRow (row ∷ more) to index = ((row.address ≡ to) × (row.index ≡ index))
 
 -- an Update Start of a client
 pub record IsStart (p : Sending) (purpose : Purpose) (given : List Row) (to : ℕ) (u : UpdateStart) : Type 0 where
+  pub ttl : u.ttl ≡ p.ttl
+  pub base : u.base ≡ p.base
   pub id : u.id ≡ p.id
   pub metadata : u.metadata ≡ metadata_of purpose
   pub receiver : HasRow given to u.index
@@ -63,6 +65,8 @@ HasReceiver [] to index = ⊥
 HasReceiver (r ∷ more) to index = ((r.address ≡ to) × (r.index ≡ index)) ⊎ HasReceiver more to index
 
 pub record IsOffered (address : ℕ) (d : DistDurable) (to : ℕ) (u : UpdateStart) : Type 0 where
+  pub ttl : u.ttl ≡ d.settings.ttl
+  pub base : u.base ≡ d.settings.base
   pub id : u.id ≡ transfer_id address d
   pub metadata : u.metadata ≡ meta_octets (meta_of (offered d))
   pub receiver : HasReceiver d.receivers to u.index

@@ -1,5 +1,5 @@
 -- How the rows of a distributor change: what the cause of each change is.
-use Rattle.std.specs.Prelude.{ℕ, ◌≡◌, ◌<◌, ◌+◌, true, List, [], ◌∷◌, map, Some, ⊤}
+use Rattle.std.specs.Prelude.{ℕ, ◌≡◌, ◌<◌, ◌+◌, true, false, List, [], ◌∷◌, map, Some, ⊤}
 use Rattle.mu_model_node.specs.Events.{NodeEvent, PacketComes, TimeComes}
 use Rattle.mu_model_client.specs.Answers.{Answer}
 use Rattle.mu_model_client.specs.Rows.{Row, row_after, rank, transfer_canceled, apply_success, apply_failed}
@@ -29,9 +29,9 @@ Says address TimeComes from taken = ⊥
 -- how a row's phase changes within a distribution
 pub data RowChange (address : ℕ) (d : DistDurable) (event : NodeEvent) (old new : Receiver) : Type 0 where
   stands : new.phase ≡ old.phase → RowChange address d event old new
-  -- an answer of the receiver itself, by what it says of the distribution's transfer and image
+  -- an answer of the receiver itself, while the distribution goes on, by what it says of its transfer and image
   told :
-      (row : Row) (answer : Answer) → receiver_of row ≡ old → Says address event old.address (OfReceiver answer)
+      (row : Row) (answer : Answer) → is_at_rest d.phase ≡ false → receiver_of row ≡ old → Says address event old.address (OfReceiver answer)
       → new.phase ≡ (row_after (transfer_id address d) (meta_of (offered d)) row answer).phase → RowChange address d event old new
   -- canceled while it wasn't final
   canceled : (from : ℕ) → Says address event from (OfDistribution DistributionCancel) → rank old.phase < 5 → new.phase ≡ transfer_canceled → RowChange address d event old new

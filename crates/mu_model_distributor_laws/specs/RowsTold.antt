@@ -1,5 +1,5 @@
 -- A distributor's rows say what its receivers told it of the present distribution, over whole runs.
-use Rattle.std.specs.Prelude.{ℕ, ◌≡◌, ◌==◌, ◌⊎◌, true, false, List, [], ◌∷◌, ◌++◌, Option, Some, if◌then◌else◌}
+use Rattle.std.specs.Prelude.{ℕ, ◌≡◌, ◌==◌, ◌≤◌, ◌⊎◌, true, false, List, [], ◌∷◌, ◌++◌, Option, Some, if◌then◌else◌}
 use Rattle.std.specs.List.{AllByRecursion}
 use Rattle.mu_model_image.specs.declared.Meta.{Meta}
 use Rattle.mu_model_image.specs.Meta.{firmware_id, own_company}
@@ -11,7 +11,7 @@ use Rattle.mu_model_client.specs.Rows.{is_reported, transfer_canceled, apply_suc
 use Rattle.mu_model_distributor.specs.DistMessages.{Taken, OfReceiver, taken_at}
 use Rattle.mu_model_distributor.specs.DistState.{Receiver, DistDurable, DistState, transfer_id, offered, is_at_rest}
 use Rattle.mu_model_distributor.specs.Distribution.{meta_of}
-use Rattle.mu_model_distributor.specs.DistEvents.{dist_step, restarted}
+use Rattle.mu_model_distributor.specs.DistEvents.{dist_step, live}
 use Rattle.mu_model_distributor.specs.Runs.{happened, state_after}
 use Rattle.mu_model_distributor.specs.Sound.{IsDistDurable, IsDistState}
 use Rattle.mu_model_distributor_laws.specs.RunLaws.{HappeningFits}
@@ -35,8 +35,9 @@ pub record Heard : Type 0 where
   pub id : ℕ
   pub offer : Meta
 
+-- an answer is heard while a distribution goes on; at rest there is no client to hear it
 abbrev pub heard_as : ℕ → DistDurable → ℕ → Option Taken → List Heard
-heard_as address d from (Some (OfReceiver answer)) = record { from = from; answer = answer; id = transfer_id address d; offer = meta_of (offered d) } ∷ []
+heard_as address d from (Some (OfReceiver answer)) = if is_at_rest d.phase then [] else record { from = from; answer = answer; id = transfer_id address d; offer = meta_of (offered d) } ∷ []
 heard_as address d from _ = []
 
 abbrev pub heard_event : ℕ → DistDurable → NodeEvent → List Heard
@@ -61,7 +62,7 @@ pub data InOrder : List Heard → List Heard → Type 0 where
 
 -- ---- what a row says
 
--- the boot found a row of this receiver in this phase
+-- the start found a row of this receiver in this phase
 abbrev pub HasFound : List Receiver → ℕ → ℕ → ℕ → Type 0
 HasFound [] address index phase = ⊥
 HasFound (r ∷ more) address index phase = ((r.address ≡ address) × (r.index ≡ index) × (r.phase ≡ phase)) ⊎ HasFound more address index phase
@@ -90,7 +91,7 @@ pub record ToldSuccess (id address index : ℕ) (heard : List Heard) : Type 0 wh
       ∷ record { from = address; answer = FromUpdate (InformationStatus count index (firmware_id own_company offer ∷ more)); id = id; offer = offer }
       ∷ []) heard
 
--- the boot found a phase that the receiver had told, and then it showed the image
+-- the start found a phase that the receiver had told, and then it showed the image
 pub record ShownSince (id address index : ℕ) (rows : List Receiver) (heard : List Heard) : Type 0 where
   pub phase : ℕ
   pub reported : is_reported phase ≡ true
@@ -100,7 +101,8 @@ pub record ShownSince (id address index : ℕ) (rows : List Receiver) (heard : L
   pub more : List (List ℕ)
   pub heard_it : InOrder (record { from = address; answer = FromUpdate (InformationStatus count index (firmware_id own_company offer ∷ more)); id = id; offer = offer } ∷ []) heard
 
--- why a row is in its phase, since a boot found d; `same` where the distribution is the one that the boot found
+-- why a row is in its phase, since the run began with d: `found` and `shown_since` only where the distribution is the one that the
+-- start found
 pub data Told (d : DistDurable) (id number : ℕ) (heard : List Heard) (r : Receiver) : Type 0 where
   -- a verdict of the distributor's own
   verdict : ((r.phase ≡ transfer_canceled) ⊎ ((r.phase ≡ apply_failed) ⊎ (r.phase ≡ phase_unknown))) → Told d id number heard r
@@ -114,5 +116,5 @@ RowsAreToldIn address d heard e = AllByRecursion (Told d (transfer_id address e)
 
 abbrev pub RowsAreTold : Type 0
 RowsAreTold =
-    (address : ℕ) (d : DistDurable) (hs : List Happening) → IsDistDurable d → AllByRecursion HappeningFits hs
-    → RowsAreToldIn address d (heard_in address (restarted address d) hs) (state_after address (restarted address d) hs).durable
+    (address : ℕ) (d : DistDurable) (fresh : ℕ) (hs : List Happening) → IsDistDurable d → fresh ≤ 3 → AllByRecursion HappeningFits hs
+    → RowsAreToldIn address d (heard_in address (live address d fresh) hs) (state_after address (live address d fresh) hs).durable

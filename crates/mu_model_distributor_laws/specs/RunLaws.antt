@@ -6,7 +6,7 @@ use Rattle.mu_model_node.specs.NodeMessages.{OfUpdate}
 use Rattle.mu_model_node.specs.Safe.{Happening, Done, CutPower, Torn}
 use Rattle.mu_model_distributor.specs.DistMessages.{Sent, ByClient}
 use Rattle.mu_model_distributor.specs.DistState.{DistDurable, DistState}
-use Rattle.mu_model_distributor.specs.DistEvents.{dist_step, restarted}
+use Rattle.mu_model_distributor.specs.DistEvents.{dist_step, live}
 use Rattle.mu_model_distributor.specs.Runs.{happened, state_after}
 use Rattle.mu_model_distributor.specs.Sound.{IsDistDurable, IsDistState}
 use Rattle.mu_model_distributor_laws.specs.Laws.{EventFits}
@@ -18,15 +18,15 @@ HappeningFits (Done event now) = EventFits event
 HappeningFits (Torn event now operations) = EventFits event
 HappeningFits CutPower = Unit {0}
 
--- the rules on a distributor's record hold from the boot on, and its client does what the distribution asks
+-- the rules on a distributor's record hold from the start on, and its client does what the distribution asks
 pub record IsInOrder (address : ℕ) (s : DistState) : Type 0 where
   pub sound : IsDistState s
   pub planned : IsPlanned address s
 
 abbrev pub RunsAreInOrder : Type 0
 RunsAreInOrder =
-    (address : ℕ) (d : DistDurable) (hs : List Happening) → IsDistDurable d → AllByRecursion HappeningFits hs
-    → IsInOrder address (state_after address (restarted address d) hs)
+    (address : ℕ) (d : DistDurable) (fresh : ℕ) (hs : List Happening) → IsDistDurable d → fresh ≤ 3 → AllByRecursion HappeningFits hs
+    → IsInOrder address (state_after address (live address d fresh) hs)
 
 -- what is sent in a run; what a torn event would have sent is lost
 abbrev pub sent_by : ℕ → DistState → Happening → List (ℕ × Sent)
@@ -51,5 +51,5 @@ StartIsBehind address number _ = Unit {0}
 -- distribution has its BLOB ID, whenever the power goes
 abbrev pub NoNumberIsLost : Type 0
 NoNumberIsLost =
-    (address : ℕ) (d : DistDurable) (hs : List Happening) → IsDistDurable d → AllByRecursion HappeningFits hs
-    → AllByRecursion (StartIsBehind address (state_after address (restarted address d) hs).durable.counter) (sent_in address (restarted address d) hs)
+    (address : ℕ) (d : DistDurable) (fresh : ℕ) (hs : List Happening) → IsDistDurable d → fresh ≤ 3 → AllByRecursion HappeningFits hs
+    → AllByRecursion (StartIsBehind address (state_after address (live address d fresh) hs).durable.counter) (sent_in address (live address d fresh) hs)

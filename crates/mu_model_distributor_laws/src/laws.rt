@@ -9,8 +9,10 @@ ghost use Rattle.mu_model_distributor_laws.specs.WorkedEnds.{VerificationEnds, C
 ghost use Rattle.mu_model_distributor_laws.specs.Laws.{EventsKeepStatesSound, BootsAreSound, PassedStatesAreSound, NewIsSound, StockedIsSound, OctetsSayInRange, StatesPassRising, WorkLeavesOldOrNew, WorkLeadsToTheNew, WorkIsBounded, RecordsAreLongByReceivers, RecordsSaySomething, LongIsPastTheEnd};
 ghost use Rattle.mu_model_distributor_laws.specs.Planned.{EventsKeepPlanned, BootsArePlanned, StartsAreOffered, CountersRise};
 ghost use Rattle.mu_model_distributor_laws.specs.RowMoves.{RowsMoveByCause};
+ghost use Rattle.mu_model_distributor_laws.specs.Rests.{RestsMove, RestsStartNothing};
 ghost use Rattle.mu_model_distributor_laws.specs.RowsTold.{OffersStand, RowsAreTold};
 ghost use Rattle.mu_model_distributor_laws.specs.Lists.{ListsShowRows, ListsAreTold};
+ghost use Rattle.mu_model_distributor_laws.specs.Starts.{StartsAreInOrder, NewIsUnused, StockedIsUnused};
 ghost use Rattle.mu_model_distributor_laws.specs.RunLaws.{RunsAreInOrder, NoNumberIsLost};
 
 use mu_model_wire::laws::{canonical_is_read, grammar_holds, reads_what_is_spelled};
@@ -59,6 +61,19 @@ pub fn starts_are_offered()
 /// Each change of a row has its cause.
 pub fn rows_move_by_cause()
     ensures { RowsMoveByCause }
+{}
+
+/// At rest, while no distribution goes on, no row changes, nobody is asked to update, and a distribution begins under a new number.
+pub fn rests_stand()
+    ensures moves { RestsMove }
+    ensures starts { RestsStartNothing }
+{}
+
+/// A new distributor, and one that images are stocked into, begin their runs in order.
+pub fn starts_are_in_order()
+    ensures order { StartsAreInOrder }
+    ensures new { NewIsUnused }
+    ensures stocked { StockedIsUnused }
 {}
 
 /// Whatever comes and whenever the power goes, a distributor is in order, and no number of a distribution is used again.

@@ -17,8 +17,9 @@ use Rattle.mu_model_client.specs.Answers.{Answer, FromUpdate, answer_of, answer_
 use Rattle.mu_model_client.specs.Rows.{Row}
 use Rattle.mu_model_distributor.specs.Requests.{DistRequest, dist_request_of}
 use Rattle.mu_model_distributor.specs.DistMessages.{Taken, OfDistribution, OfBlob, OfReceiver, taken_as, taken_in, taken_at}
-use Rattle.mu_model_distributor.specs.DistState.{Receiver, DistDurable, DistState, transfer_id, receiver_of}
-use Rattle.mu_model_distributor.specs.DistEvents.{dist_step, restarted}
+use Rattle.mu_model_distributor.specs.DistState.{Receiver, DistDurable, DistState, is_at_rest, transfer_id, offered, receiver_of}
+use Rattle.mu_model_distributor.specs.Distribution.{meta_of}
+use Rattle.mu_model_distributor.specs.DistEvents.{dist_step, live}
 use Rattle.mu_model_distributor.specs.Runs.{happened, state_after}
 use Rattle.mu_model_distributor_laws.specs.RowsTold.{Heard, heard_as, heard_event, heard_by, heard_in, InOrder, none, here, later, Told, verdict as told_verdict, found as told_found, told, shown, shown_since, RowsAreTold}
 use Rattle.mu_model_distributor_laws.specs.Lists.{list_at, TellsRows, ListsAreTold}
@@ -65,7 +66,11 @@ as_true : (b : Both) (d : DistDurable) (from : ℕ) (taken : Option Taken) (read
 as_true b d from None read h k = tt
 as_true b d from (Some (OfDistribution request)) read h k = tt
 as_true b d from (Some (OfBlob request)) read h k = tt
-as_true b d from (Some (OfReceiver answer)) read h k = ((λ e. subst (λ (x : Option Answer). IsReached b.node (log_of b) x) h (k e)), tt)
+as_true b d from (Some (OfReceiver answer)) read h k =
+    elim (is_at_rest d.phase) as (λ t. AllByRecursion (IsTrueOf b) (cond t [] (record { from = from; answer = answer; id = transfer_id b.address d; offer = meta_of (offered d) } ∷ []))) [
+      | true ↦ tt
+      | false ↦ ((λ e. subst (λ (x : Option Answer). IsReached b.node (log_of b) x) h (k e)), tt)
+    ]
 
 packet_true : (b : Both) (d : DistDurable) (p : Packet) → Says b p → AllByRecursion (IsTrueOf b) (heard_event b.address d (PacketComes p))
 packet_true b d p h =
@@ -127,7 +132,7 @@ row_reached b r all from (shown_since is e h) =
 
 all_heard : SentIsReached → (b : Both) → AreBoth b → AllByRecursion (IsTrueOf b) (heard_of b)
 all_heard law b h =
-    heard_true b (restarted b.address b.distributor) b.to_distributor
+    heard_true b (live b.address b.distributor b.fresh) b.to_distributor
     (come_says b (sent_in b.config (node_restarted b.node) b.to_node) (come_in b.to_distributor) (law b.config b.node b.to_node h.node h.numbers h.to_node) h.comes)
 
 receivers_reached : (b : Both) (rs : List Receiver) → AllByRecursion (IsTrueOf b) (heard_of b) → AllByRecursion (Told b.distributor (transfer_id b.address (durable_of b)) (durable_of b).counter (heard_of b)) rs → AllByRecursion (λ (r : Receiver). r.address ≡ b.config.address → RowIsReached b r) rs
@@ -136,21 +141,21 @@ receivers_reached b (r ∷ rs) all h = ((λ e. row_reached b r all e h.0), recei
 
 pub rows_are_reached : SentIsReached → RowsAreTold → RowsAreReached
 rows_are_reached sent law b h =
-    receivers_reached b (durable_of b).receivers (all_heard sent b h) (law b.address b.distributor b.to_distributor h.distributor h.to_distributor)
+    receivers_reached b (durable_of b).receivers (all_heard sent b h) (law b.address b.distributor b.fresh b.to_distributor h.distributor h.fresh h.to_distributor)
 
 shown_reached : (b : Both) (given : List Row) → AllByRecursion (IsTrueOf b) (heard_of b) → AllByRecursion (λ (row : Row). Told b.distributor (transfer_id b.address (durable_of b)) (durable_of b).counter (heard_of b) (receiver_of row)) given → ListIsReached b (Some given)
 shown_reached b [] all h = tt
 shown_reached b (row ∷ given) all h = ((λ e. row_reached b (receiver_of row) all e h.0), shown_reached b given all h.1)
 
-list_reached : (b : Both) (given : Option (List Row)) → AllByRecursion (IsTrueOf b) (heard_of b) → TellsRows b.address b.distributor b.to_distributor given → ListIsReached b given
+list_reached : (b : Both) (given : Option (List Row)) → AllByRecursion (IsTrueOf b) (heard_of b) → TellsRows b.address b.distributor b.fresh b.to_distributor given → ListIsReached b given
 list_reached b None all h = tt
 list_reached b (Some given) all h = shown_reached b given all h
 
-lists_reached : (b : Both) (sent : List Packet) → AllByRecursion (IsTrueOf b) (heard_of b) → AllByRecursion (λ (p : Packet). TellsRows b.address b.distributor b.to_distributor (list_at p.payload)) sent → AllByRecursion (λ (p : Packet). ListIsReached b (list_at p.payload)) sent
+lists_reached : (b : Both) (sent : List Packet) → AllByRecursion (IsTrueOf b) (heard_of b) → AllByRecursion (λ (p : Packet). TellsRows b.address b.distributor b.fresh b.to_distributor (list_at p.payload)) sent → AllByRecursion (λ (p : Packet). ListIsReached b (list_at p.payload)) sent
 lists_reached b [] all h = tt
 lists_reached b (p ∷ sent) all h = (list_reached b (list_at p.payload) all h.0, lists_reached b sent all h.1)
 
 pub lists_are_reached : SentIsReached → ListsAreTold → ListsAreReached
 lists_are_reached sent law b event now h fits =
-    lists_reached b (dist_step b.address (state_after b.address (restarted b.address b.distributor) b.to_distributor) event now).sent (all_heard sent b h)
-    (law b.address b.distributor b.to_distributor event now h.distributor h.to_distributor fits)
+    lists_reached b (dist_step b.address (state_after b.address (live b.address b.distributor b.fresh) b.to_distributor) event now).sent (all_heard sent b h)
+    (law b.address b.distributor b.fresh b.to_distributor event now h.distributor h.fresh h.to_distributor fits)

@@ -7,7 +7,7 @@ use Rattle.mu_model_node.specs.NodeState.{NodeDurable}
 use Rattle.mu_model_node.specs.Safe.{InOrder as LogOrder}
 use Rattle.mu_model_client.specs.Rows.{Row}
 use Rattle.mu_model_distributor.specs.DistState.{Receiver, receiver_of}
-use Rattle.mu_model_distributor.specs.DistEvents.{dist_step, restarted}
+use Rattle.mu_model_distributor.specs.DistEvents.{dist_step, live}
 use Rattle.mu_model_distributor.specs.Runs.{state_after}
 use Rattle.mu_model_distributor_laws.specs.RowsTold.{HasFound}
 use Rattle.mu_model_distributor_laws.specs.Lists.{list_at}
@@ -45,4 +45,4 @@ lists_true b (p ∷ sent) new h = (list_true b (list_at p.payload) new h.0, list
 
 pub new_lists_are_true : ListsAreReached → NewListsAreTrue
 new_lists_are_true law b event now h new fits =
-    lists_true b (dist_step b.address (state_after b.address (restarted b.address b.distributor) b.to_distributor) event now).sent new (law b event now h fits)
+    lists_true b (dist_step b.address (state_after b.address (live b.address b.distributor b.fresh) b.to_distributor) event now).sent new (law b event now h fits)

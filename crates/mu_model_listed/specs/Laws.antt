@@ -1,5 +1,5 @@
 -- What a distributor shows of a node was reached by the node.
-use Rattle.std.specs.Prelude.{ℕ, ◌≡◌, ◌⊎◌, List, [], ◌∷◌, ◌++◌, Option, Some, None, true}
+use Rattle.std.specs.Prelude.{ℕ, ◌≡◌, ◌≤◌, ◌⊎◌, List, [], ◌∷◌, ◌++◌, Option, Some, None, true}
 use Rattle.std.specs.List.{AllByRecursion}
 use Rattle.mu_model_image.specs.declared.Meta.{Meta}
 use Rattle.mu_model_image.specs.Meta.{firmware_id, own_company}
@@ -13,7 +13,7 @@ use Rattle.mu_model_node.specs.Sound.{IsNodeDurable}
 use Rattle.mu_model_client.specs.Answers.{Answer}
 use Rattle.mu_model_client.specs.Rows.{Row, is_reported, transfer_canceled, apply_success, apply_failed, phase_unknown}
 use Rattle.mu_model_distributor.specs.DistState.{Receiver, DistDurable, transfer_id, receiver_of}
-use Rattle.mu_model_distributor.specs.DistEvents.{dist_step, restarted}
+use Rattle.mu_model_distributor.specs.DistEvents.{dist_step, live}
 use Rattle.mu_model_distributor.specs.Runs.{state_after}
 use Rattle.mu_model_distributor.specs.Sound.{IsDistDurable}
 use Rattle.mu_model_distributor_laws.specs.Laws.{EventFits}
@@ -54,6 +54,8 @@ pub record Both : Type 0 where
   -- the distributor's address
   pub address : ℕ
   pub distributor : DistDurable
+  -- slots after its record that it could still use
+  pub fresh : ℕ
   pub to_distributor : List Happening
 
 pub record AreBoth (b : Both) : Type 0 where
@@ -61,6 +63,7 @@ pub record AreBoth (b : Both) : Type 0 where
   pub numbers : HasNumbers b.node.job
   pub to_node : AllByRecursion NodeHappeningFits b.to_node
   pub distributor : IsDistDurable b.distributor
+  pub fresh : b.fresh ≤ 3
   pub to_distributor : AllByRecursion HappeningFits b.to_distributor
   pub comes : ComesFrom b.config.address (sent_in b.config (node_restarted b.node) b.to_node) (come_in b.to_distributor)
 
@@ -68,15 +71,15 @@ abbrev pub log_of : Both → List LogEntry
 log_of b = log_after b.config (node_restarted b.node) b.to_node
 
 abbrev pub heard_of : Both → List Heard
-heard_of b = heard_in b.address (restarted b.address b.distributor) b.to_distributor
+heard_of b = heard_in b.address (live b.address b.distributor b.fresh) b.to_distributor
 
 -- the distributor as it stands
 abbrev pub durable_of : Both → DistDurable
-durable_of b = (state_after b.address (restarted b.address b.distributor) b.to_distributor).durable
+durable_of b = (state_after b.address (live b.address b.distributor b.fresh) b.to_distributor).durable
 
 -- ---- what a row shows
 
--- the metadata were offered under this BLOB ID when something was heard
+-- the metadata were offered under this BLOB ID when something was heard, so by a distribution that went on then
 abbrev pub WasOffered : Both → ℕ → Meta → Type 0
 WasOffered b id meta = (from : ℕ) × (answer : Answer) × InOrder (record { from = from; answer = answer; id = id; offer = meta } ∷ []) (heard_of b)
 
@@ -86,7 +89,7 @@ pub record HasOffered (b : Both) (id index : ℕ) : Type 0 where
   pub offered : WasOffered b id meta
   pub active : IdIsSafe b.node (log_of b) index (firmware_id own_company meta)
 
--- why a row of the node is in its phase; `found` where it is so since the distributor's boot in the same distribution
+-- why a row of the node is in its phase; `found` where it is so since the distributor's run began, in the same distribution
 pub data RowIsReached (b : Both) (r : Receiver) : Type 0 where
   -- a verdict of the distributor's own
   verdict : ((r.phase ≡ transfer_canceled) ⊎ ((r.phase ≡ apply_failed) ⊎ (r.phase ≡ phase_unknown))) → RowIsReached b r
@@ -115,7 +118,7 @@ abbrev pub ListsAreReached : Type 0
 ListsAreReached =
     (b : Both) (event : NodeEvent) (now : ℕ) → AreBoth b → EventFits event
     → AllByRecursion (λ (p : Packet). ListIsReached b (list_at p.payload))
-    (dist_step b.address (state_after b.address (restarted b.address b.distributor) b.to_distributor) event now).sent
+    (dist_step b.address (state_after b.address (live b.address b.distributor b.fresh) b.to_distributor) event now).sent
 
 -- ---- from new ones on
 
@@ -138,4 +141,4 @@ abbrev pub NewListsAreTrue : Type 0
 NewListsAreTrue =
     (b : Both) (event : NodeEvent) (now : ℕ) → AreBoth b → AreNew b → EventFits event
     → AllByRecursion (λ (p : Packet). ListIsTrue b (list_at p.payload))
-    (dist_step b.address (state_after b.address (restarted b.address b.distributor) b.to_distributor) event now).sent
+    (dist_step b.address (state_after b.address (live b.address b.distributor b.fresh) b.to_distributor) event now).sent

@@ -328,6 +328,7 @@ module _ (fit : ImagesFit) (made : MadeImageHasItsSize) where
       (kept_changed (begun w) address m at [] is (subst (HasRun address at) (sym (append-nil (log_at address w.log))) same) (kept_same w (begun w) refl refl k)))
   kept_outcomes w (Active address) range free k = kept_at_member (member_at w address) _ (λ m is. kept_same w (begun w) refl refl k)
   kept_outcomes w (Phase address) range free k = kept_at_member (member_at w address) _ (λ m is. kept_same w (begun w) refl refl k)
+  kept_outcomes w _ range free k = tt
 
   -- ---- runs
 

@@ -1,6 +1,7 @@
 -- An event that is read has its fields in their ranges.
-use Rattle.std.proofs.Common.{◌≡◌, ℕ, ◌⊎◌, Bool, true, false, List, [], ◌∷◌, length, Option, Some, None, Result, Ok, Err, cond, inl, inr, refl, subst, arith}
+use Rattle.std.proofs.Common.{◌≡◌, ℕ, suc, ◌≤◌, ◌⊎◌, Bool, true, false, List, [], ◌∷◌, ◌++◌, length, Option, Some, None, Result, Ok, Err, cond, inl, inr, refl, ap, subst, arith}
 use Rattle.std.specs.Prelude.{nat_eq, bytes_eq, nat_lt, nat_le, codes, ◌&&◌, ◌||◌}
+use Rattle.std.specs.List.{AllByRecursion, onto_first}
 use Rattle.std.specs.Option.{option_map, option_and_then}
 use Rattle.hex.specs.Hex.{decode_of}
 use Rattle.hex.specs.declared.error.FromHexError.{FromHexError}
@@ -10,10 +11,10 @@ use Rattle.mu_model_flash.specs.declared.Pattern.TheVariants.{Old as OldBits, Ne
 use Rattle.mu_model_script.specs.declared.LineFault.{LineFault}
 use Rattle.mu_model_script.specs.declared.LineWhy.TheVariants.{Long}
 use Rattle.mu_model_script.specs.Pieces.{Token, tokens_of, pieces}
-use Rattle.mu_model_script.specs.Tokens.{Content, Hex, Made, Kind, unicast, group_or_none, destination, number_in, octets_up_to, image, pattern, Value, Number, Octets, Image, Bits, value_of, if_address, address_of, is_unicast, is_group, number_of, octets_of, if_length, content_of, made_of, seed_and_size, hex_after, made_after, after_prefix, pattern_of, seeded_bits}
-use Rattle.mu_model_script.specs.Event.{Event, Node, Pair, Old, Say, Deliver, Time, Cut, Tear, Active, Phase}
-use Rattle.mu_model_script.specs.Ranges.{IsWithin, IsUnicast, IsGroup, IsOctets, IsContent, IsPattern, IsNode, IsInRange}
-use Rattle.mu_model_script.specs.Lines.{LineRow, node_row, pair_row, old_row, say_row, deliver_row, time_row, cut_row, tear_row, active_row, phase_row, line_rows, ◌>>=◌, or_refuse, refuse, Left, next_token, value_at, nothing_left, values_at, row_of, event_of, is_silent, some_event, line_event}
+use Rattle.mu_model_script.specs.Tokens.{Content, Hex, Made, Kind, unicast, group_or_none, destination, number_in, octets_up_to, image, mode, receivers, pattern, Value, Number, Octets, Image, Bits, Addresses, value_of, mode_of, put_before, unicasts_of, are_different, if_receivers, receivers_of, if_address, address_of, is_unicast, is_group, number_of, octets_of, if_length, content_of, made_of, seed_and_size, hex_after, made_after, after_prefix, pattern_of, seeded_bits}
+use Rattle.mu_model_script.specs.Event.{Event, Node, Pair, Old, Updater, Distributor, Stock, Say, Deliver, Time, Cut, Tear, Active, Phase, Settle, Rows, Packet}
+use Rattle.mu_model_script.specs.Ranges.{IsWithin, IsUnicast, IsGroup, IsOctets, IsContent, IsPattern, IsNode, AreReceivers, IsUpdater, IsInRange}
+use Rattle.mu_model_script.specs.Lines.{LineRow, node_row, pair_row, old_row, say_row, deliver_row, time_row, cut_row, tear_row, active_row, phase_row, updater_row, distributor_row, stock_row, settle_row, rows_row, packet_row, line_rows, station_rows, script_rows, event_by, ◌>>=◌, or_refuse, refuse, Left, next_token, value_at, nothing_left, values_at, row_of, event_of, is_silent, some_event, event_among, line_event, script_event}
 use Rattle.mu_model_script.proofs.Numbers.{number_of-some}
 
 -- ---- steps
@@ -40,6 +41,8 @@ IsSaid (number_in least most) (Number n) = IsWithin least most n
 IsSaid (octets_up_to most) (Octets octets) = IsOctets most octets
 IsSaid image (Image content) = IsContent content
 IsSaid pattern (Bits left) = IsPattern left
+IsSaid mode (Number n) = IsWithin 1 2 n
+IsSaid (receivers most) (Addresses to) = AreReceivers most to
 IsSaid _ _ = ⊥
 
 abbrev tested : {A : Type 0} → Bool → A → Option A
@@ -140,6 +143,57 @@ pattern_said text left h =
     let seed = after_prefix (codes "made:") text in
     chosen_said (bytes_eq text (codes "none")) (bytes_eq text (codes "all")) (seeded_bits seed) left (seeded_said seed left) h
 
+mode_chosen : (push pull : Bool) (n : ℕ) → cond push (Some 1) (cond pull (Some 2) None) ≡ Some n → IsWithin 1 2 n
+mode_chosen true pull n h =
+    let is : 1 ≡ n = cc h in
+    subst (IsWithin 1 2) is (omega arith, omega arith)
+mode_chosen false true n h =
+    let is : 2 ≡ n = cc h in
+    subst (IsWithin 1 2) is (omega arith, omega arith)
+mode_chosen false false n h = cc h
+
+before_said : (address : Option ℕ) (addresses : Option (List ℕ)) (to : List ℕ) → put_before address addresses ≡ Some to
+    → (a : ℕ) × (others : List ℕ) × (address ≡ Some a) × (addresses ≡ Some others) × ((a ∷ others) ≡ to)
+before_said (Some a) (Some others) to h = (a, others, refl, refl, cc h)
+before_said (Some a) None to h = cc h
+before_said None addresses to h = cc h
+
+unicasts_said : (texts : List (List ℕ)) (to : List ℕ) → unicasts_of texts ≡ Some to → AllByRecursion IsUnicast to × (length to ≡ length texts)
+unicasts_said [] to h =
+    let is : [] ≡ to = cc h in
+    subst (λ xs. AllByRecursion IsUnicast xs × (length xs ≡ 0)) is (tt, refl)
+unicasts_said (text ∷ texts) to h =
+    let b = before_said (if_address is_unicast text) (unicasts_of texts) to h in
+    let rest = unicasts_said texts b.1 b.3 in
+    subst (λ xs. AllByRecursion IsUnicast xs × (length xs ≡ length (text ∷ texts))) b.4
+    ((unicast_is b.0 (address_passed is_unicast (address_of text) b.0 b.2), rest.0), ap (λ n. suc n) rest.1)
+
+both_true : (p q : Bool) → (p && q) ≡ true → (p ≡ true) × (q ≡ true)
+both_true true q h = (refl, h)
+both_true false q h = absurd cc
+
+on_first : (x : ℕ) (splits : List (List ℕ)) → 1 ≤ length splits → 1 ≤ length (onto_first x splits)
+on_first x [] h = absurd (omega (arith, h))
+on_first x (split ∷ splits) h = h
+
+some_pieces : (octets : List ℕ) → 1 ≤ length (pieces 44 octets)
+some_pieces [] = omega arith
+some_pieces (octet ∷ octets) =
+    elim (nat_eq octet 44) as (λ t. 1 ≤ length (cond t ([] ∷ pieces 44 octets) (onto_first octet (pieces 44 octets)))) [
+      | true ↦ omega arith
+      | false ↦ on_first octet (pieces 44 octets) (some_pieces octets)
+    ]
+
+receivers_are : (most : ℕ) (texts : List (List ℕ)) (read : Option (List ℕ)) (to : List ℕ) → unicasts_of texts ≡ read → 1 ≤ length texts → if_receivers most read ≡ Some to → AreReceivers most to
+receivers_are most texts (Some found) to is some h =
+    let p = passed (nat_le (length found) most && are_different found) found to h in
+    let both = both_true (nat_le (length found) most) (are_different found) p.0 in
+    let said = unicasts_said texts found is in
+    let few : length found ≤ most = grind (arith, both.0) in
+    let least : 1 ≤ length found = omega (arith, some, said.1) in
+    subst (AreReceivers most) p.1 (record { some = least; few = few; unicast = said.0; different = both.1 })
+receivers_are most texts None to is some h = cc h
+
 value_said : (kind : Kind) (text : List ℕ) (value : Value) → value_of kind text ≡ Some value → IsSaid kind value
 value_said unicast text value h =
     let m = mapped Number (if_address is_unicast text) value h in
@@ -171,6 +225,14 @@ value_said pattern text value h =
     let m = mapped Bits (pattern_of text) value h in
     let P : Value → Type 0 = IsSaid pattern in
     subst P m.2 (pattern_said text m.0 m.1)
+value_said mode text value h =
+    let m = mapped Number (mode_of text) value h in
+    let P : Value → Type 0 = IsSaid mode in
+    subst P m.2 (mode_chosen (bytes_eq text (codes "push")) (bytes_eq text (codes "pull")) m.0 m.1)
+value_said (receivers most) text value h =
+    let m = mapped Addresses (receivers_of most text) value h in
+    let P : Value → Type 0 = IsSaid (receivers most) in
+    subst P m.2 (receivers_are most (pieces 44 text) (unicasts_of (pieces 44 text)) m.0 refl (some_pieces text) m.1)
 
 -- ---- rows
 
@@ -277,6 +339,61 @@ phase_says (Number address ∷ []) event said h =
     subst P is said.0
 phase_says _ event said h = cc h
 
+updater_says : SaysInRange updater_row
+updater_says (Number address ∷ Number group ∷ Number id ∷ Number ttl ∷ Number base ∷ Number way ∷ Number log ∷ Number chunk ∷ Number version ∷ Image content ∷ Addresses to ∷ []) event said h =
+    let is : Updater address group id ttl base way log chunk version content to ≡ event = cc h in
+    let P : Event → Type 0 = IsInRange in
+    let rest = said.1.1.1.1.1 in
+    subst P is (record {
+      address_in = said.0;
+      group_in = said.1.0;
+      id_in = said.1.1.0;
+      ttl_in = said.1.1.1.0;
+      base_in = said.1.1.1.1.0;
+      mode_in = rest.0;
+      log_in = rest.1.0;
+      chunk_in = rest.1.1.0;
+      version_in = rest.1.1.1.0;
+      content_in = rest.1.1.1.1.0;
+      receivers_in = rest.1.1.1.1.1.0;
+    })
+updater_says _ event said h = cc h
+
+distributor_says : SaysInRange distributor_row
+distributor_says (Number address ∷ Number pages ∷ []) event said h =
+    let is : Distributor address pages ≡ event = cc h in
+    let P : Event → Type 0 = IsInRange in
+    subst P is (said.0, said.1.0)
+distributor_says _ event said h = cc h
+
+stock_says : SaysInRange stock_row
+stock_says (Number address ∷ Number version ∷ Image content ∷ []) event said h =
+    let is : Stock address version content ≡ event = cc h in
+    let P : Event → Type 0 = IsInRange in
+    subst P is (said.0, said.1.0, said.1.1.0)
+stock_says _ event said h = cc h
+
+settle_says : SaysInRange settle_row
+settle_says (Number turns ∷ []) event said h =
+    let is : Settle turns ≡ event = cc h in
+    let P : Event → Type 0 = IsInRange in
+    subst P is said.0
+settle_says _ event said h = cc h
+
+rows_says : SaysInRange rows_row
+rows_says (Number address ∷ []) event said h =
+    let is : Rows address ≡ event = cc h in
+    let P : Event → Type 0 = IsInRange in
+    subst P is said.0
+rows_says _ event said h = cc h
+
+packet_says : SaysInRange packet_row
+packet_says (Number number ∷ []) event said h =
+    let is : Packet number ≡ event = cc h in
+    let P : Event → Type 0 = IsInRange in
+    subst P is said.0
+packet_says _ event said h = cc h
+
 abbrev EveryRow : (LineRow → Type 0) → List LineRow → Type 0
 EveryRow P [] = Unit {0}
 EveryRow P (row ∷ rows) = P row × EveryRow P rows
@@ -293,27 +410,77 @@ row_of-every P (first ∷ rows) word row every h =
 every_row : EveryRow SaysInRange line_rows
 every_row = (node_says, (pair_says, (old_says, (say_says, (deliver_says, (time_says, (cut_says, (tear_says, (active_says, (phase_says, tt))))))))))
 
-event_of-in_range : (left : Left) (event : Event) → event_of line_rows left ≡ Ok event → IsInRange event
-event_of-in_range left event h =
-    let word = bind_ok (next_token left.tokens left.end) _ event h in
-    let row = bind_ok (or_refuse (row_of line_rows word.0.0.octets) word.0.0.at) _ event word.2 in
-    let values = bind_ok (values_at row.0.kinds word.0.1) _ event row.2 in
-    let says = row_of-every SaysInRange line_rows word.0.0.octets row.0 every_row (not_refused (row_of line_rows word.0.0.octets) word.0.0.at row.0 row.1) in
-    says values.0 event (values_said row.0.kinds word.0.1 values.0 values.1) (not_refused (row.0.event values.0) word.0.1.end event values.2)
+every_both : (P : LineRow → Type 0) (rows more : List LineRow) → EveryRow P rows → EveryRow P more → EveryRow P (rows ++ more)
+every_both P [] more h k = k
+every_both P (row ∷ rows) more h k = (h.0, every_both P rows more h.1 k)
+
+every_station : EveryRow SaysInRange station_rows
+every_station = (updater_says, (distributor_says, (stock_says, (settle_says, (rows_says, (packet_says, tt))))))
+
+module _ (rows : List LineRow) (every : EveryRow SaysInRange rows) where
+  event_of-in_range : (left : Left) (event : Event) → event_of rows left ≡ Ok event → IsInRange event
+  event_of-in_range left event h =
+      let word = bind_ok (next_token left.tokens left.end) _ event h in
+      let row = bind_ok (or_refuse (row_of rows word.0.0.octets) word.0.0.at) _ event word.2 in
+      let values = bind_ok (values_at row.0.kinds word.0.1) _ event row.2 in
+      let says = row_of-every SaysInRange rows word.0.0.octets row.0 every (not_refused (row_of rows word.0.0.octets) word.0.0.at row.0 row.1) in
+      says values.0 event (values_said row.0.kinds word.0.1 values.0 values.1) (not_refused (row.0.event values.0) word.0.1.end event values.2)
 
 some_event-ok : (read : Result Event LineFault) (event : Event) → some_event read ≡ Ok (Some event) → read ≡ Ok event
 some_event-ok (Ok found) event h = cc h
 some_event-ok (Err e) event h = cc h
 
-pub line_event-in_range : (line : List ℕ) (event : Event) → line_event line ≡ Ok (Some event) → IsInRange event
-line_event-in_range line event h =
-    let left : Left = record { tokens = tokens_of line; end = length line } in
-    let Short : Bool → Type 0 = λ t. cond t (refuse 4096 Long) (cond (is_silent line) (Ok None) (some_event (event_of line_rows left))) ≡ Ok (Some event) → IsInRange event in
-    let Silent : Bool → Type 0 = λ t. cond t (Ok None) (some_event (event_of line_rows left)) ≡ Ok (Some event) → IsInRange event in
+-- what holds of an event that the rows give holds of an event of a line
+of_line : (P : List LineRow → Event → Type 0) (rows : List LineRow) (line : List ℕ) (event : Event)
+    → (event_of rows (record { tokens = tokens_of line; end = length line }) ≡ Ok event → P rows event) → event_among rows line ≡ Ok (Some event) → P rows event
+of_line P rows line event of h =
+    let read = event_of rows (record { tokens = tokens_of line; end = length line }) in
+    let Short : Bool → Type 0 = λ t. cond t (refuse 4096 Long) (cond (is_silent line) (Ok None) (some_event read)) ≡ Ok (Some event) → P rows event in
+    let Silent : Bool → Type 0 = λ t. cond t (Ok None) (some_event read) ≡ Ok (Some event) → P rows event in
     elim (nat_lt 4096 (length line)) as Short [
       | true ↦ λ is. cc is
       | false ↦ elim (is_silent line) as Silent [
         | true ↦ λ is. cc is
-        | false ↦ λ is. event_of-in_range left event (some_event-ok (event_of line_rows left) event is)
+        | false ↦ λ is. of (some_event-ok read event is)
+      ]
+    ] h
+
+pub line_event-in_range : (line : List ℕ) (event : Event) → line_event line ≡ Ok (Some event) → IsInRange event
+line_event-in_range line event h = of_line (λ rows e. IsInRange e) line_rows line event (event_of-in_range line_rows every_row (record { tokens = tokens_of line; end = length line }) event) h
+
+pub script_event-in_range : (line : List ℕ) (event : Event) → script_event line ≡ Ok (Some event) → IsInRange event
+script_event-in_range line event h =
+    of_line (λ rows e. IsInRange e) script_rows line event (event_of-in_range script_rows (every_both SaysInRange line_rows station_rows every_row every_station) (record { tokens = tokens_of line; end = length line }) event) h
+
+-- ---- more rows
+
+row_among : (rows more : List LineRow) (word : List ℕ) (row : LineRow) → row_of rows word ≡ Some row → row_of (rows ++ more) word ≡ Some row
+row_among [] more word row h = absurd cc
+row_among (first ∷ rows) more word row h =
+    elim (bytes_eq word first.word) as (λ t. cond t (Some first) (row_of rows word) ≡ Some row → cond t (Some first) (row_of (rows ++ more) word) ≡ Some row) [
+      | true ↦ λ is. is
+      | false ↦ λ is. row_among rows more word row is
+    ] h
+
+refused_or : {A : Type 0} (o o' : Option A) (at : ℕ) (x : A) → (o ≡ Some x → o' ≡ Some x) → or_refuse o at ≡ Ok x → or_refuse o' at ≡ Ok x
+refused_or o o' at x h is = ap (λ p. or_refuse p at) (h (not_refused o at x is))
+
+event_of-more : (rows more : List LineRow) (left : Left) (event : Event) → event_of rows left ≡ Ok event → event_of (rows ++ more) left ≡ Ok event
+event_of-more rows more left event h =
+    let word = bind_ok (next_token left.tokens left.end) _ event h in
+    let row = bind_ok (or_refuse (row_of rows word.0.0.octets) word.0.0.at) _ event word.2 in
+    let same = refused_or (row_of rows word.0.0.octets) (row_of (rows ++ more) word.0.0.octets) word.0.0.at row.0 (row_among rows more word.0.0.octets row.0) row.1 in
+    rw (word.1, same) row.2
+
+pub node_lines : (line : List ℕ) (event : Event) → line_event line ≡ Ok (Some event) → script_event line ≡ Ok (Some event)
+node_lines line event h =
+    let left : Left = record { tokens = tokens_of line; end = length line } in
+    let read = event_of line_rows left in
+    let whole = event_of script_rows left in
+    elim (nat_lt 4096 (length line)) as (λ t. cond t (refuse 4096 Long) (cond (is_silent line) (Ok None) (some_event read)) ≡ Ok (Some event) → cond t (refuse 4096 Long) (cond (is_silent line) (Ok None) (some_event whole)) ≡ Ok (Some event)) [
+      | true ↦ λ is. is
+      | false ↦ elim (is_silent line) as (λ t. cond t (Ok None) (some_event read) ≡ Ok (Some event) → cond t (Ok None) (some_event whole) ≡ Ok (Some event)) [
+        | true ↦ λ is. is
+        | false ↦ λ is. ap (λ r. some_event r) (event_of-more line_rows station_rows left event (some_event-ok read event is))
       ]
     ] h

@@ -10,6 +10,12 @@ pub data Event : Type 0 where
   Pair : (address group pages version : ℕ) (content : Content) (second_version : ℕ) (second_content : Content) → Event
   -- a node with one image and a note of the older form
   Old : (address group pages version : ℕ) (content : Content) → Event
+  -- a standalone updater at an address, with the image of this version that it sends to these receivers, and how it sends it
+  Updater : (address group id ttl base mode log chunk version : ℕ) (content : Content) (to : List ℕ) → Event
+  -- a distributor, in banks of so many pages
+  Distributor : (address pages : ℕ) → Event
+  -- an image of this version for a distributor
+  Stock : (address version : ℕ) (content : Content) → Event
   -- a stranger sends a packet
   Say : (from to : ℕ) (payload : List ℕ) → Event
   -- a packet comes to a member
@@ -25,3 +31,9 @@ pub data Event : Type 0 where
   Active : (address : ℕ) → Event
   -- shows the phases of a member
   Phase : (address : ℕ) → Event
+  -- so many turns: in each all members have time events, and then all packets that were sent come to their addressees
+  Settle : (turns : ℕ) → Event
+  -- shows the rows of an updater or a distributor
+  Rows : (address : ℕ) → Event
+  -- shows a packet
+  Packet : (number : ℕ) → Event

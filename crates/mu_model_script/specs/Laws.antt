@@ -6,7 +6,7 @@ use Rattle.hex.specs.Hex.{encode_lower, IsBytes}
 use Rattle.mu_model_script.specs.Pieces.{pieces}
 use Rattle.mu_model_script.specs.Tokens.{number_of, address_of, octets_of}
 use Rattle.mu_model_script.specs.Event.{Event}
-use Rattle.mu_model_script.specs.Lines.{line_event}
+use Rattle.mu_model_script.specs.Lines.{line_event, script_event}
 use Rattle.mu_model_script.specs.Ranges.{IsInRange}
 use Rattle.mu_model_script.specs.Texts.{address_text}
 
@@ -34,3 +34,10 @@ PrintedOctetsAreRead = (most : ℕ) (octets : List ℕ) → IsBytes octets → 1
 -- an event that is read has its fields in their ranges
 abbrev pub EventIsInRange : Type 0
 EventIsInRange = (line : List ℕ) (event : Event) → line_event line ≡ Ok (Some event) → IsInRange event
+
+abbrev pub ScriptEventIsInRange : Type 0
+ScriptEventIsInRange = (line : List ℕ) (event : Event) → script_event line ≡ Ok (Some event) → IsInRange event
+
+-- and a line of nodes says the same in any script
+abbrev pub NodeLinesAreTheSame : Type 0
+NodeLinesAreTheSame = (line : List ℕ) (event : Event) → line_event line ≡ Ok (Some event) → script_event line ≡ Ok (Some event)

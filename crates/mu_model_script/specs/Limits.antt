@@ -10,6 +10,10 @@ most_octets = 16777216
 abbrev pub most_lines : ℕ
 most_lines = 100000
 
+-- turns of all `settle` lines together
+abbrev pub most_turns : ℕ
+most_turns = 5000
+
 -- octets of a line, without its LF
 abbrev pub most_in_line : ℕ
 most_in_line = 4096

@@ -1,11 +1,11 @@
 -- The lines of a script as a table, and the one reading of it (this profile).
-use Rattle.std.specs.Prelude.{ℕ, ◌==◌, nat_lt, Bool, true, List, [], ◌∷◌, length, codes, bytes_eq, Option, Some, None, Result, Ok, Err, if◌then◌else◌}
+use Rattle.std.specs.Prelude.{ℕ, ◌==◌, nat_lt, Bool, true, List, [], ◌∷◌, ◌++◌, length, codes, bytes_eq, Option, Some, None, Result, Ok, Err, if◌then◌else◌}
 use Rattle.mu_model_script.specs.declared.LineWhy.{LineWhy}
 use Rattle.mu_model_script.specs.declared.LineWhy.TheVariants.{Token as BadToken, Long}
 use Rattle.mu_model_script.specs.declared.LineFault.{LineFault}
 use Rattle.mu_model_script.specs.Pieces.{Token, tokens_of}
-use Rattle.mu_model_script.specs.Tokens.{Kind, unicast, group_or_none, destination, number_in, octets_up_to, image, pattern, Value, Number, Octets, Image, Bits, value_of}
-use Rattle.mu_model_script.specs.Event.{Event, Node, Pair, Old, Say, Deliver, Time, Cut, Tear, Active, Phase}
+use Rattle.mu_model_script.specs.Tokens.{Kind, unicast, group_or_none, destination, number_in, octets_up_to, image, mode, receivers, pattern, Value, Number, Octets, Image, Bits, Addresses, value_of}
+use Rattle.mu_model_script.specs.Event.{Event, Node, Pair, Old, Updater, Distributor, Stock, Say, Deliver, Time, Cut, Tear, Active, Phase, Settle, Rows, Packet}
 
 -- a line's word, the kinds of the tokens behind it, and what it makes happen
 pub record LineRow : Type 0 where
@@ -25,6 +25,31 @@ pair_event _ = None
 abbrev pub old_event : List Value → Option Event
 old_event (Number address ∷ Number group ∷ Number pages ∷ Number version ∷ Image content ∷ []) = Some (Old address group pages version content)
 old_event _ = None
+
+abbrev pub updater_event : List Value → Option Event
+updater_event (Number address ∷ Number group ∷ Number id ∷ Number ttl ∷ Number base ∷ Number way ∷ Number log ∷ Number chunk ∷ Number version ∷ Image content ∷ Addresses to ∷ []) =
+    Some (Updater address group id ttl base way log chunk version content to)
+updater_event _ = None
+
+abbrev pub distributor_event : List Value → Option Event
+distributor_event (Number address ∷ Number pages ∷ []) = Some (Distributor address pages)
+distributor_event _ = None
+
+abbrev pub stock_event : List Value → Option Event
+stock_event (Number address ∷ Number version ∷ Image content ∷ []) = Some (Stock address version content)
+stock_event _ = None
+
+abbrev pub settle_event : List Value → Option Event
+settle_event (Number turns ∷ []) = Some (Settle turns)
+settle_event _ = None
+
+abbrev pub rows_event : List Value → Option Event
+rows_event (Number address ∷ []) = Some (Rows address)
+rows_event _ = None
+
+abbrev pub packet_event : List Value → Option Event
+packet_event (Number number ∷ []) = Some (Packet number)
+packet_event _ = None
 
 abbrev pub say_event : List Value → Option Event
 say_event (Number from ∷ Number to ∷ Octets payload ∷ []) = Some (Say from to payload)
@@ -99,8 +124,50 @@ active_row = record { word = codes "active"; kinds = unicast ∷ []; event = act
 abbrev pub phase_row : LineRow
 phase_row = record { word = codes "phase"; kinds = unicast ∷ []; event = phase_event }
 
+-- updater A G ID TTL BASE MODE LOG CHUNK VERSION CONTENT R,R,..
+abbrev pub updater_row : LineRow
+updater_row = record {
+  word = codes "updater";
+  kinds =
+      unicast ∷ group_or_none ∷ number_in 0 281474976710655 ∷ number_in 0 255 ∷ number_in 0 65535 ∷ mode ∷ number_in 12 14 ∷ number_in 8 376
+      ∷ number_in 0 4294967295
+      ∷ image
+      ∷ receivers 128
+      ∷ [];
+  event = updater_event;
+}
+
+-- distributor A PAGES
+abbrev pub distributor_row : LineRow
+distributor_row = record { word = codes "distributor"; kinds = unicast ∷ number_in 1 256 ∷ []; event = distributor_event }
+
+-- stock A VERSION CONTENT
+abbrev pub stock_row : LineRow
+stock_row = record { word = codes "stock"; kinds = unicast ∷ number_in 0 4294967295 ∷ image ∷ []; event = stock_event }
+
+-- settle N
+abbrev pub settle_row : LineRow
+settle_row = record { word = codes "settle"; kinds = number_in 1 4294967295 ∷ []; event = settle_event }
+
+-- rows A
+abbrev pub rows_row : LineRow
+rows_row = record { word = codes "rows"; kinds = unicast ∷ []; event = rows_event }
+
+-- packet K
+abbrev pub packet_row : LineRow
+packet_row = record { word = codes "packet"; kinds = number_in 0 4294967295 ∷ []; event = packet_event }
+
+-- the lines of scripts with nodes alone
 abbrev pub line_rows : List LineRow
 line_rows = node_row ∷ pair_row ∷ old_row ∷ say_row ∷ deliver_row ∷ time_row ∷ cut_row ∷ tear_row ∷ active_row ∷ phase_row ∷ []
+
+-- and those of updaters and distributors
+abbrev pub station_rows : List LineRow
+station_rows = updater_row ∷ distributor_row ∷ stock_row ∷ settle_row ∷ rows_row ∷ packet_row ∷ []
+
+-- all lines
+abbrev pub script_rows : List LineRow
+script_rows = line_rows ++ station_rows
 
 -- ---- reading
 
@@ -171,9 +238,17 @@ abbrev pub some_event : Result Event LineFault → Result (Option Event) LineFau
 some_event (Ok event) = Ok (Some event)
 some_event (Err e) = Err e
 
--- what a line says: nothing, an event, or the first place that is wrong
-abbrev pub line_event : List ℕ → Result (Option Event) LineFault
-line_event line =
+-- what a line says by the rows of a table: nothing, an event, or the first place that is wrong
+abbrev pub event_among : List LineRow → List ℕ → Result (Option Event) LineFault
+event_among rows line =
     if nat_lt 4096 (length line) then refuse 4096 Long
     else if is_silent line then Ok None
-    else some_event (event_of line_rows (record { tokens = tokens_of line; end = length line }))
+    else some_event (event_of rows (record { tokens = tokens_of line; end = length line }))
+
+-- a line of a script with nodes alone
+abbrev pub line_event : List ℕ → Result (Option Event) LineFault
+line_event line = event_among line_rows line
+
+-- a line of any script
+abbrev pub script_event : List ℕ → Result (Option Event) LineFault
+script_event line = event_among script_rows line

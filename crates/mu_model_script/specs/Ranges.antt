@@ -1,10 +1,11 @@
 -- What holds of every event that a line of a script says: its fields are in their ranges (this profile).
-use Rattle.std.specs.Prelude.{◌≡◌, ℕ, ◌≤◌, ◌⊎◌, List, length}
+use Rattle.std.specs.Prelude.{◌≡◌, ℕ, ◌≤◌, ◌⊎◌, true, List, length}
+use Rattle.std.specs.List.{AllByRecursion}
 use Rattle.hex.specs.Hex.{IsBytes}
 use Rattle.mu_model_flash.specs.declared.Pattern.{Pattern}
 use Rattle.mu_model_flash.specs.declared.Pattern.TheVariants.{Old as OldBits, New as NewBits, Made as MadeBits}
-use Rattle.mu_model_script.specs.Tokens.{Content, Hex, Made}
-use Rattle.mu_model_script.specs.Event.{Event, Node, Pair, Old, Say, Deliver, Time, Cut, Tear, Active, Phase}
+use Rattle.mu_model_script.specs.Tokens.{Content, Hex, Made, are_different}
+use Rattle.mu_model_script.specs.Event.{Event, Node, Pair, Old, Updater, Distributor, Stock, Say, Deliver, Time, Cut, Tear, Active, Phase, Settle, Rows, Packet}
 
 abbrev pub IsWithin : ℕ → ℕ → ℕ → Type 0
 IsWithin least most n = (least ≤ n) × (n ≤ most)
@@ -32,6 +33,27 @@ IsPattern (MadeBits seed) = IsWithin 0 65535 seed
 abbrev pub IsNode : (address group pages version : ℕ) → Content → Type 0
 IsNode address group pages version content = IsUnicast address × ((group ≡ 0) ⊎ IsGroup group) × IsWithin 1 256 pages × IsWithin 0 4294967295 version × IsContent content
 
+-- 1 to so many different unicast addresses
+pub record AreReceivers (most : ℕ) (to : List ℕ) : Type 0 where
+  pub some : 1 ≤ length to
+  pub few : length to ≤ most
+  pub unicast : AllByRecursion IsUnicast to
+  pub different : are_different to ≡ true
+
+-- the fields of an updater's line
+pub record IsUpdater (address group id ttl base mode log chunk version : ℕ) (content : Content) (to : List ℕ) : Type 0 where
+  pub address_in : IsUnicast address
+  pub group_in : (group ≡ 0) ⊎ IsGroup group
+  pub id_in : IsWithin 0 281474976710655 id
+  pub ttl_in : IsWithin 0 255 ttl
+  pub base_in : IsWithin 0 65535 base
+  pub mode_in : IsWithin 1 2 mode
+  pub log_in : IsWithin 12 14 log
+  pub chunk_in : IsWithin 8 376 chunk
+  pub version_in : IsWithin 0 4294967295 version
+  pub content_in : IsContent content
+  pub receivers_in : AreReceivers 128 to
+
 abbrev pub IsInRange : Event → Type 0
 IsInRange (Node address group pages version content) = IsNode address group pages version content
 IsInRange (Pair address group pages version content second_version second_content) =
@@ -44,3 +66,9 @@ IsInRange (Cut address) = IsUnicast address
 IsInRange (Tear address number pattern) = IsUnicast address × IsWithin 1 1000 number × IsPattern pattern
 IsInRange (Active address) = IsUnicast address
 IsInRange (Phase address) = IsUnicast address
+IsInRange (Updater address group id ttl base mode log chunk version content to) = IsUpdater address group id ttl base mode log chunk version content to
+IsInRange (Distributor address pages) = IsUnicast address × IsWithin 1 256 pages
+IsInRange (Stock address version content) = IsUnicast address × IsWithin 0 4294967295 version × IsContent content
+IsInRange (Settle turns) = IsWithin 1 4294967295 turns
+IsInRange (Rows address) = IsUnicast address
+IsInRange (Packet number) = IsWithin 0 4294967295 number

@@ -1,6 +1,6 @@
 -- The texts that a script's run writes (this profile): tokens with one blank between, ended by LF. Numbers are decimal but for
 -- addresses, which are four hexadecimal digits; digits of octets are hexadecimal in lower case.
-use Rattle.std.specs.Prelude.{ℕ, List, [], ◌∷◌, ◌++◌, codes}
+use Rattle.std.specs.Prelude.{ℕ, Bool, List, [], ◌∷◌, ◌++◌, codes, if◌then◌else◌}
 use Rattle.std.specs.List.{join_with_byte}
 use Rattle.std.specs.Fmt.{decimal}
 use Rattle.std.specs.Int.{w16, to_be_bytes}
@@ -33,9 +33,18 @@ active_text address version size digest = text_line (codes "active" ∷ address_
 abbrev pub boot_text : (address count held : ℕ) → List ℕ
 boot_text address count held = text_line (codes "boot" ∷ address_text address ∷ decimal count ∷ decimal held ∷ [])
 
--- phase A UPDATE BLOB of a node
+-- phase A UPDATE BLOB of a node, phase A DISTRIBUTION UPLOAD of a distributor
 abbrev pub phase_text : (address first second : ℕ) → List ℕ
 phase_text address first second = text_line (codes "phase" ∷ address_text address ∷ decimal first ∷ decimal second ∷ [])
+
+-- phase A 1 of an updater that has ended, else phase A 0
+abbrev pub ended_text : (address : ℕ) (ended : Bool) → List ℕ
+ended_text address ended = text_line (codes "phase" ∷ address_text address ∷ decimal (if ended then 1 else 0) ∷ [])
+
+-- row ADDRESS PHASE UPDATESTATUS TRANSFERSTATUS PROGRESS
+abbrev pub row_text : (address phase update_status transfer_status progress : ℕ) → List ℕ
+row_text address phase update_status transfer_status progress =
+    text_line (codes "row" ∷ address_text address ∷ decimal phase ∷ decimal update_status ∷ decimal transfer_status ∷ decimal progress ∷ [])
 
 abbrev pub line_word : LineWhy → List ℕ
 line_word Token = codes "token"

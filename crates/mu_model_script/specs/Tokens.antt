@@ -1,6 +1,6 @@
 -- The kinds of tokens, with their ranges, and what a token says (this profile).
-use Rattle.std.specs.Prelude.{ℕ, ◌+◌, ◌-◌, ◌*◌, ◌==◌, ◌&&◌, ◌||◌, not, nat_eq, nat_le, Bool, List, [], ◌∷◌, length, drop, slice_index, codes, bytes_eq, Option, Some, None, Result, Ok, Err, if◌then◌else◌}
-use Rattle.std.specs.List.{starts_with, list_all}
+use Rattle.std.specs.Prelude.{ℕ, ◌+◌, ◌-◌, ◌*◌, ◌==◌, ◌&&◌, ◌||◌, not, nat_eq, nat_le, Bool, true, List, [], ◌∷◌, length, drop, slice_index, codes, bytes_eq, Option, Some, None, Result, Ok, Err, if◌then◌else◌}
+use Rattle.std.specs.List.{starts_with, list_all, list_any}
 use Rattle.std.specs.Option.{option_map, option_and_then}
 use Rattle.std.specs.Char.{is_ascii_digit}
 use Rattle.std.specs.Int.{w16, from_be_bytes}
@@ -28,6 +28,10 @@ pub data Kind : Type 0 where
   octets_up_to : (most : ℕ) → Kind
   -- an image: `hex:` with 1..1024 octets, or `made:SEED:SIZE`
   image : Kind
+  -- a Transfer Mode: `push` or `pull`, which are 1 and 2
+  mode : Kind
+  -- 1 to so many different unicast addresses, with one comma between
+  receivers : (most : ℕ) → Kind
   -- what a torn operation leaves of its range: `none` or `all` of its bits new, or those that `made:SEED` picks
   pattern : Kind
 
@@ -37,6 +41,7 @@ pub data Value : Type 0 where
   Octets : List ℕ → Value
   Image : Content → Value
   Bits : Pattern → Value
+  Addresses : List ℕ → Value
 
 abbrev pub if_within : ℕ → ℕ → ℕ → Option ℕ
 if_within least most n = if nat_le least n && nat_le n most then Some n else None
@@ -111,6 +116,30 @@ hex_after None otherwise = otherwise
 abbrev pub content_of : List ℕ → Option Content
 content_of text = hex_after (after_prefix (codes "hex:") text) (made_after (after_prefix (codes "made:") text))
 
+-- ---- how and to whom an updater sends
+
+abbrev pub mode_of : List ℕ → Option ℕ
+mode_of text = if bytes_eq text (codes "push") then Some 1 else if bytes_eq text (codes "pull") then Some 2 else None
+
+abbrev pub put_before : Option ℕ → Option (List ℕ) → Option (List ℕ)
+put_before (Some address) (Some addresses) = Some (address ∷ addresses)
+put_before _ _ = None
+
+abbrev pub unicasts_of : List (List ℕ) → Option (List ℕ)
+unicasts_of [] = Some []
+unicasts_of (text ∷ texts) = put_before (if_address is_unicast text) (unicasts_of texts)
+
+abbrev pub are_different : List ℕ → Bool
+are_different [] = true
+are_different (address ∷ addresses) = not (list_any (nat_eq address) addresses) && are_different addresses
+
+abbrev pub if_receivers : ℕ → Option (List ℕ) → Option (List ℕ)
+if_receivers most (Some addresses) = if nat_le (length addresses) most && are_different addresses then Some addresses else None
+if_receivers most None = None
+
+abbrev pub receivers_of : ℕ → List ℕ → Option (List ℕ)
+receivers_of most text = if_receivers most (unicasts_of (pieces 44 text))
+
 -- ---- patterns
 
 abbrev pub seeded_bits : Option (List ℕ) → Option Pattern
@@ -133,3 +162,5 @@ value_of (number_in least most) octets = option_map Number (number_of least most
 value_of (octets_up_to most) octets = option_map Octets (octets_of most octets)
 value_of image octets = option_map Image (content_of octets)
 value_of pattern octets = option_map Bits (pattern_of octets)
+value_of mode octets = option_map Number (mode_of octets)
+value_of (receivers most) octets = option_map Addresses (receivers_of most octets)

@@ -1,6 +1,6 @@
 //! Laws of the definitions: functions that do nothing, whose contracts are proved.
 
-ghost use Rattle.mu_model_script.specs.Laws.{PrintedNumberIsRead, NumberHasOneText, PiecesAreTheOctets, NoPieceHasTheSeparator, PrintedAddressIsRead, PrintedOctetsAreRead, EventIsInRange};
+ghost use Rattle.mu_model_script.specs.Laws.{PrintedNumberIsRead, NumberHasOneText, PiecesAreTheOctets, NoPieceHasTheSeparator, PrintedAddressIsRead, PrintedOctetsAreRead, EventIsInRange, ScriptEventIsInRange, NodeLinesAreTheSame};
 
 /// A number is read from the text that is printed of it, and from no other.
 pub fn number_has_one_text()
@@ -27,4 +27,10 @@ pub fn printed_octets_are_read()
 /// An event that is read from a line has its fields in their ranges.
 pub fn event_is_in_range()
     ensures { EventIsInRange }
+{}
+
+/// The same of a script with updaters and distributors, in which the lines of nodes say what they say by themselves.
+pub fn script_event_is_in_range()
+    ensures range { ScriptEventIsInRange }
+    ensures same { NodeLinesAreTheSame }
 {}

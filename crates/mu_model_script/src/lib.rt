@@ -5,7 +5,7 @@ mod laws;
 
 pub use laws::{
     event_is_in_range, number_has_one_text, pieces_are_the_octets, printed_address_is_read,
-    printed_octets_are_read,
+    printed_octets_are_read, script_event_is_in_range,
 };
 use thiserror::Error;
 

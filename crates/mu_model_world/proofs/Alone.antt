@@ -124,6 +124,7 @@ outcomes_whole w (Cut address) h f = at_member_whole (member_at w address) _ (λ
 outcomes_whole w (TearLine address operation pattern) h f = at_member_whole (member_at w address) _ (λ m found. set_whole (nat_eq address) w.members _ h f)
 outcomes_whole w (Active address) h f = at_member_whole (member_at w address) _ (λ m found. h)
 outcomes_whole w (Phase address) h f = at_member_whole (member_at w address) _ (λ m found. h)
+outcomes_whole w _ h f = no_outcome
 
 -- ---- lines
 

@@ -93,6 +93,8 @@ objection w (Cut address) = against_unknown w 1 address
 objection w (Tear address operation pattern) = against_unknown w 1 address
 objection w (Active address) = against_unknown w 1 address
 objection w (Phase address) = against_unknown w 1 address
+-- lines of updaters and distributors aren't read here
+objection w _ = None
 
 -- what a line comes to
 pub data Judged : Type 0 where

@@ -176,6 +176,8 @@ outcomes w (TearLine address operation pattern) =
     at_member (member_at w address) (λ m. showing (with_changed (begun w) address (record m { tear = Some (record { operation = operation; pattern = pattern }) })) [])
 outcomes w (Active address) = at_member (member_at w address) (λ m. showing (begun w) (active_texts address m.state.durable.images))
 outcomes w (Phase address) = at_member (member_at w address) (λ m. showing (begun w) (phase_line address m.state))
+-- nothing comes of a line of updaters or distributors where there are none
+outcomes w _ = []
 
 -- an event may lead from a world to the next with this text
 abbrev pub Moves : World → Event → List ℕ → World → Type 0

@@ -58,6 +58,7 @@ of_outcomes w (Cut address) = of_member (w.events + 1) (member_at w address) _ (
 of_outcomes w (TearLine address operation pattern) = of_member (w.events + 1) (member_at w address) _ (λ m. refl)
 of_outcomes w (Active address) = of_member (w.events + 1) (member_at w address) _ (λ m. refl)
 of_outcomes w (Phase address) = of_member (w.events + 1) (member_at w address) _ (λ m. refl)
+of_outcomes w _ = tt
 
 of_all : {X : Type 0} (P : X → Type 0) (xs : List X) (x : X) → AllByRecursion P xs → Contains xs x → P x
 of_all P [] x all p =

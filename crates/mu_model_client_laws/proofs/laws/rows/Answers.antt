@@ -1,5 +1,5 @@
 use Rattle.mu_model_client_laws.proofs.Rising.{of_answer}
-use Rattle.mu_model_client_laws.proofs.Sound.{rows_rise, time_ranks, cancel_ranks}
+use Rattle.mu_model_client_laws.proofs.Sound.{rows_rise, rows_follow, time_ranks, cancel_ranks}
 use Rattle.mu_model_client_laws.proofs.laws.rows.Goals as goal
 
 pub returns-clause-rise : goal.returns-clause-rise
@@ -13,3 +13,6 @@ returns-clause-cancelled c client = cancel_ranks client
 
 pub returns-clause-causes : goal.returns-clause-causes
 returns-clause-causes c id offered row answer = of_answer id offered row answer
+
+pub returns-clause-follow : goal.returns-clause-follow
+returns-clause-follow c client from answer now = rows_follow client from answer now

@@ -1,0 +1,9 @@
+pub mod Order
+pub mod Traces
+pub mod Moves
+pub mod Runs
+pub mod Jobs
+pub mod Versions
+pub mod Fates
+pub mod Offers
+pub mod Nexts

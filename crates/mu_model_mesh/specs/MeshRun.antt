@@ -1,0 +1,51 @@
+-- Whole runs of scripts with updaters and distributors.
+use Rattle.std.specs.Prelude.{ℕ, ◌≡◌, ◌⊎◌, false, List, [], Contains}
+use Rattle.mu_model_script.specs.Event.{Event, Settle}
+use Rattle.mu_model_script.specs.Runs as runs
+use Rattle.mu_model_world.specs.Judged.{Judged, Silent, Refused, Sound}
+use Rattle.mu_model_mesh.specs.Mesh.{Mesh, new_mesh}
+use Rattle.mu_model_mesh.specs.MeshOutcomes.{MeshOutcome, mesh_outcomes, mesh_begun, given, time_comes}
+use Rattle.mu_model_mesh.specs.MeshJudged.{mesh_judged, is_past}
+use Rattle.mu_model_mesh.specs.Settle.{Settles}
+
+-- a line may lead from a world to the next with this text
+abbrev pub MeshMoves : Mesh → Event → (text : List ℕ) → (next : Mesh) → Type 0
+MeshMoves m (Settle turns) text next = Settles turns (mesh_begun m) text next
+MeshMoves m event text next = Contains (mesh_outcomes m event) (record { mesh = next; text = text })
+
+-- what was judged is done, within the limits, with this text, and leads to the next world
+abbrev pub IsDone : Mesh → Judged → (text : List ℕ) → (next : Mesh) → Type 0
+IsDone m Silent text next = (text ≡ []) × (next ≡ m)
+IsDone m (Refused place word) text next = ⊥
+IsDone m (Sound event) text next = (is_past m event ≡ false) × MeshMoves m event text next
+
+-- one line
+pub record MeshStep (m : Mesh) (line text : List ℕ) (next : Mesh) : Type 0 where
+  pub done : IsDone m (mesh_judged m line) text next
+
+-- it is refused at this place, with this word for why
+abbrev pub MeshBars : Mesh → List ℕ → ℕ → List ℕ → Type 0
+MeshBars m line place word = mesh_judged m line ≡ Refused place word
+
+-- all these lines, one after the other, and all that they print
+abbrev pub MeshRun : Mesh → List (List ℕ) → List ℕ → Mesh → Type 0
+MeshRun = runs.Run MeshStep
+
+abbrev pub MeshPrints : List (List ℕ) → List ℕ → Type 0
+MeshPrints = runs.Prints MeshStep new_mesh
+
+abbrev pub MeshRefuses : List (List ℕ) → (text : List ℕ) (number place : ℕ) (word : List ℕ) → Type 0
+MeshRefuses = runs.Refuses MeshStep MeshBars new_mesh
+
+-- ---- within a line
+
+-- From a world, whatever time passes at its members and whatever packets of the bag come to them, in any order: each world that a
+-- `settle` goes through is reached so, also where it isn't carried through.
+pub data Reaches : Mesh → Mesh → Type 0 where
+  here : {m : Mesh} → Reaches m m
+  by_time : {m mid next : Mesh} (address ms : ℕ) (text : List ℕ) → Contains (time_comes m address ms) (record { mesh = mid; text = text }) → Reaches mid next → Reaches m next
+  by_packet : {m mid next : Mesh} (number address : ℕ) (text : List ℕ) → Contains (given m number address) (record { mesh = mid; text = text }) → Reaches mid next → Reaches m next
+
+-- a world after a line, or within the next
+abbrev pub Within : Mesh → Mesh → Type 0
+Within m mid = (mid ≡ m) ⊎ Reaches (mesh_begun m) mid

@@ -1,0 +1,3 @@
+pub mod Updater
+pub mod Laws
+pub mod Worked
