@@ -200,19 +200,19 @@ mesh_outcomes m (UpdaterLine address group id ttl base way log chunk version con
     one (with_new_updater m address (record {
       moment = 0;
       updater =
-      updater_of (record {
-        address = address;
-        group = group;
-        id = id;
-        ttl = ttl;
-        base = base;
-        mode = way;
-        log = log;
-        chunk = chunk;
-        version = version;
-        content = content_octets content;
-        receivers = to;
-      });
+          updater_of (record {
+            address = address;
+            group = group;
+            id = id;
+            ttl = ttl;
+            base = base;
+            mode = way;
+            log = log;
+            chunk = chunk;
+            version = version;
+            content = content_octets content;
+            receivers = to;
+          });
     })) []
 mesh_outcomes m (Distributor address pages) =
     one (with_new_distributor m address (record { moment = 0; tear = None; state = restarted address (new_distributor pages) })) []
