@@ -27,20 +27,24 @@ use Rattle.mu_record.specs.Place.{HoldsAt}
 use Rattle.mu_store.specs.Booted.{is_held}
 use Rattle.mu_store.proofs.FillLemmas.{few_blocks}
 
--- a part of a free range is free
-pub free_less : (d : StoreState) (at n m : ℕ) → m ≤ n → IsFree d at n → IsFree d at m
-free_less d at n m le free b lt = less (entry_of d.present b) (content_of_bank d b) (free b lt)
+-- a range within a free one
+pub free_within : (d : StoreState) (p n at m : ℕ) → p ≤ at → at + m ≤ p + n → IsFree d p n → IsFree d at m
+free_within d p n at m from to free b lt = less (entry_of d.present b) (content_of_bank d b) (free b lt)
   where
-    part : (p q : ℕ) → (p + q ≤ at) ⊎ (at + n ≤ p) → (p + q ≤ at) ⊎ (at + m ≤ p)
-    part p q (inl low) = inl low
-    part p q (inr high) = inr (omega (arith, high, le))
+    part : (q k : ℕ) → (q + k ≤ p) ⊎ (p + n ≤ q) → (q + k ≤ at) ⊎ (at + m ≤ q)
+    part q k (inl low) = inl (omega (arith, low, from))
+    part q k (inr high) = inr (omega (arith, high, to))
 
-    less : (e : BankState) (k : Content) → IsFreeOf d.present b e k at n → IsFreeOf d.present b e k at m
+    less : (e : BankState) (k : Content) → IsFreeOf d.present b e k p n → IsFreeOf d.present b e k at m
     less Empty k f = tt
     less (Filling s log) nothing f = tt
     less (Filling s log) (whole octets) f = tt
     less (Filling s log) (held blocks) f = (λ i i_lt. part (mark_place b i) 1 (f.0 i i_lt), λ i octets i_lt is. part (block_place d.present b log i) (block_length s log i) (f.1 i octets i_lt is))
     less (Sealed meta) k f = part (bank_place d.present b) meta.size f
+
+-- the beginning of a free range
+pub free_less : (d : StoreState) (at n m : ℕ) → m ≤ n → IsFree d at n → IsFree d at m
+free_less d at n m le free = free_within d at n at m (omega arith) (omega (arith, le)) free
 
 -- the same state, by two calls
 pub two_ran : (d : StoreState) (n m : ℕ) (a b c : Seen) → Ran (either RepresentsStore) d (replicate n d) a b → Ran (either RepresentsStore) d (replicate m d) b c → Ran (either RepresentsStore) d (replicate (n + m) d) a c
@@ -77,6 +81,14 @@ few_of r bank size log sound there is =
     let range = filling_range r bank size log sound there is in
     few_blocks size log (omega (arith, range.1, sound.pages_most)) range.2 range.3
 
+-- a bank that is being filled has a place for each block
+module _ (d : StoreState) (fields : Record) (is : d.present ≡ fields) (bank size log : ℕ) (there : bank < fields.number) (entry : entry_of fields bank ≡ Filling size log) (blocks : List (Option (List ℕ))) (content : content_of_bank d bank ≡ held blocks) (a : Seen) (page fresh : ℕ) (holds : HoldsAt a page fresh d) where
+  pub blocks_long : length blocks ≡ block_count size log
+  blocks_long =
+      let there_d : bank < d.present.number = subst (λ (r : Record). bank < r.number) (sym is) there in
+      let entry_d : entry_of d.present bank ≡ Filling size log = ap (λ (r : Record). entry_of r bank) is ∙ entry in
+      (subst (λ (k : Content). BankHolds d.present bank (Filling size log) k a.octets) content (subst (λ (e : BankState). BankHolds d.present bank e (content_of_bank d bank) a.octets) entry_d (holds.represents.banks bank there_d))).0
+
 module _ (d : StoreState) (fields : Record) (is : d.present ≡ fields) (bank size log : ℕ) (there : bank < fields.number) (entry : entry_of fields bank ≡ Filling size log) (blocks : List (Option (List ℕ))) (content : content_of_bank d bank ≡ held blocks) (i : ℕ) (lt : i < block_count size log) where
   pub there_d : bank < d.present.number
   there_d = subst (λ (r : Record). bank < r.number) (sym is) there
@@ -112,9 +124,6 @@ module _ (d : StoreState) (fields : Record) (is : d.present ≡ fields) (bank si
 
       pub mark_broke : Broke (either (MarkTurns a.octets (mark_place bank i))) before (after ∷ []) a b → Broke (either RepresentsStore) d (with_block d bank i octets ∷ []) a b
       mark_broke broke = broke_as _ _ before (after ∷ []) d (with_block d bank i octets ∷ []) a b refl (λ told. mark_reads page holds.word d a.octets holds.represents bank size log there_d entry_d blocks content i lt octets lies_d) broke
-
-    pub blocks_long : length blocks ≡ block_count size log
-    blocks_long = (subst (λ (k : Content). BankHolds d.present bank (Filling size log) k a.octets) content (subst (λ (e : BankState). BankHolds d.present bank e (content_of_bank d bank) a.octets) entry_d (holds.represents.banks bank there_d))).0
 
     pub put_content : (octets : List ℕ) → content_of_bank (with_block d bank i octets) bank ≡ held (set blocks i (Some octets))
     put_content octets =

@@ -9,3 +9,7 @@ pub mod BlockPut
 pub mod HashLemmas
 pub mod SealLemmas
 pub mod SealRuns
+pub mod WholeLemmas
+pub mod SourceLemmas
+pub mod FillPart
+pub mod FillWhole

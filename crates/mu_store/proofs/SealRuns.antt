@@ -21,7 +21,8 @@ use Rattle.mu_record.specs.declared.write.Place.{Place}
 use Rattle.mu_record.specs.Place.{HoldsAt}
 use Rattle.mu_store.specs.declared.filling.Filling.{Filling}
 use Rattle.mu_store.specs.Booted.{is_held, FillingHolds}
-use Rattle.mu_store.specs.Sealed.{IsSameFilling, HasDigest}
+use Rattle.mu_store.specs.FillingView.{IsSameFilling}
+use Rattle.mu_store.specs.Sealed.{HasDigest}
 use Rattle.mu_store.proofs.HashLemmas.{read_holds}
 use Rattle.mu_store.proofs.SealLemmas.{joined_now, sealed_then}
 

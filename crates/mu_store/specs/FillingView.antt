@@ -37,6 +37,15 @@ filling_flags filling = filling.held
 abbrev pub IsFillingOf : {F : Type 0} {g : _} → ℕ → ℕ → ℕ → List Bool → Filling F g → Type 0
 IsFillingOf bank size log flags filling = (filling_bank filling ≡ bank) × (filling_size filling ≡ size) × (filling_log filling ≡ log) × (filling_flags filling ≡ flags)
 
+-- all but the flash is as before
+pub record IsSameFilling {F : Type 0} {g : _} (old new : Filling F g) : Type 0 where
+  pub fields : new.base.fields ≡ old.base.fields
+  pub place : new.base.place ≡ old.base.place
+  pub bank : new.bank ≡ old.bank
+  pub size : new.size ≡ old.size
+  pub log : new.log ≡ old.log
+  pub flags : new.held ≡ old.held
+
 -- the count of faults doesn't fall, and has risen where the flash failed
 abbrev pub FillingFaults : {F : Type 0} {g : _} → Seen → (F → Seen) → Result (Filling F g) (Stopped F) → Type 0
 FillingFaults old seen result = MatchResult result (λ filling. old.faults ≤ (seen filling.base.flash).faults) (FaultOf old seen)

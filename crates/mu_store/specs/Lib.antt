@@ -6,3 +6,6 @@ pub mod Judged
 pub mod Booted
 pub mod FillingView
 pub mod Sealed
+pub mod Source
+pub mod Puts
+pub mod Filled

@@ -10,7 +10,6 @@ use Rattle.mu_model_record.specs.Store.{StoreState, bank_place}
 use Rattle.mu_model_record.specs.Changes.{next_record}
 use Rattle.mu_store.specs.View.{FaultOf, store_flash, store_record, store_fresh, StoreHolds}
 use Rattle.mu_store.specs.FillingView.{filling_flash}
-use Rattle.mu_store.specs.declared.filling.Filling.{Filling}
 use Rattle.mu_store.specs.declared.store.Store.{Store}
 use Rattle.mu_store.specs.declared.faults.Stopped.{Stopped}
 use Rattle.mu_store.specs.declared.sealing.Hashed.{Hashed}
@@ -52,15 +51,6 @@ SealingFaults old seen result = MatchResult result (λ sealing. old.faults ≤ (
 
 abbrev pub HashedFaults : {F : Type 0} {g : _} → Seen → (F → Seen) → Result (Hashed F g) (Stopped F) → Type 0
 HashedFaults old seen result = MatchResult result (λ hashed. old.faults ≤ (seen (filling_flash hashed.filling)).faults) (FaultOf old seen)
-
--- nothing is another store, but for the flash
-pub record IsSameFilling {F : Type 0} {g : _} (old new : Filling F g) : Type 0 where
-  pub fields : new.base.fields ≡ old.base.fields
-  pub place : new.base.place ≡ old.base.place
-  pub bank : new.bank ≡ old.bank
-  pub size : new.size ≡ old.size
-  pub log : new.log ≡ old.log
-  pub flags : new.held ≡ old.held
 
 -- the octets of the bank have this size and this digest
 abbrev pub HasDigest : Record → ℕ → ℕ → Meta → List ℕ → Type 0

@@ -10,8 +10,10 @@ use crate::base::Base;
 use crate::digest::bank_place;
 use crate::entries::with_entry;
 use crate::faults::{Stopped, StoreFault};
+use crate::marks::count_flags;
 use crate::pages::PAGE;
 use crate::store::Store;
+use mu_arith::block_count;
 use mu_outside::Flash;
 use mu_record::{BankState, Record, Tag};
 
@@ -41,14 +43,15 @@ fn block_page(fields: &Record, bank: u8, log: u8, i: u16) -> u32
 }
 
 impl<F: Flash> Filling<F> {
-    ghost use Rattle.std.specs.Prelude.{slice_set, length, true};
+    ghost use Rattle.std.specs.Prelude.{slice_set, length, take, is_some, true};
+    ghost use Rattle.std.specs.List.{count_by};
     ghost use Rattle.mu_model_image.specs.Pieces.{block_length, piece_count};
     ghost use Rattle.mu_model_flash.specs.Run.{either, Goes};
-    ghost use Rattle.mu_model_record.specs.Store.{StoreState};
+    ghost use Rattle.mu_model_record.specs.Store.{StoreState, content_of_bank};
     ghost use Rattle.mu_model_record.specs.Represents.{RepresentsStore};
     ghost use Rattle.mu_model_record.specs.Next.{record_steps, block_steps, fresh_after};
     ghost use Rattle.mu_model_record.specs.declared.BankState.TheVariants.{Empty};
-    ghost use Rattle.mu_model_record.specs.Changes.{next_record, tagged, emptied, with_block};
+    ghost use Rattle.mu_model_record.specs.Changes.{next_record, tagged, emptied, blocks_in, with_block};
     ghost use Rattle.mu_store.specs.Booted.{FillingHolds};
     ghost use Rattle.mu_store.specs.View.{store_flash, store_record, store_fresh, StoreHolds, stopped_seen, ByFlash, StoreFaults};
     ghost use Rattle.mu_store.specs.FillingView.{filling_flash, filling_record, filling_fresh, filling_bank, filling_size, filling_log, filling_flags, IsFillingOf, FillingFaults};
@@ -238,6 +241,14 @@ impl<F: Flash> Filling<F> {
         ensures { result ≡ slice_index_or (filling_flags self.now) i false }
     {
         self.held[i as usize]
+    }
+
+    /// How many blocks are held.
+    pub fn held_count(&self) -> u16
+        ensures flags { result ≡ count_by (λ held. held) (take (block_count (filling_size self.now) (filling_log self.now)) (filling_flags self.now)) }
+        ensures state { (d : StoreState) → FillingHolds F.seen self.now d → result ≡ count_by is_some (blocks_in (content_of_bank d (filling_bank self.now))) }
+    {
+        count_flags(&self.held, block_count(self.size, self.log))
     }
 
     /// How many slots after the present record's may still be written by this run, 0..3.

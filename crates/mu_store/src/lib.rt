@@ -3,6 +3,8 @@
 
 mod base;
 mod booting;
+#[cfg(test)]
+mod cut_tests;
 mod digest;
 mod entries;
 mod faults;
@@ -11,10 +13,12 @@ mod formatting;
 mod judge;
 mod marks;
 mod pages;
+mod plugging;
+mod reading;
 mod sealing;
+mod source;
 mod store;
-#[cfg(test)]
-mod tests;
+mod whole;
 
 pub use booting::{BootFail, BootWhy, Booted, boot};
 pub use faults::{Stopped, StoreFault};
@@ -23,3 +27,4 @@ pub use formatting::format;
 pub use mu_record::{BankState, Tag};
 pub use sealing::Sealing;
 pub use store::Store;
+pub use whole::{FillFail, FillWhy};

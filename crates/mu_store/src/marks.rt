@@ -1,5 +1,6 @@
 // The marks of the bank that is being filled.
-ghost use Rattle.std.specs.Prelude.{◌≡◌, ℕ, ◌+◌, ◌*◌, ◌<◌, ◌≤◌, IsTrue, IfOk, MatchOption, Result, length, false, slice_index_or};
+ghost use Rattle.std.specs.Prelude.{◌≡◌, ℕ, ◌+◌, ◌*◌, ◌<◌, ◌≤◌, IsTrue, IfOk, MatchOption, Result, length, take, false, slice_index_or};
+ghost use Rattle.std.specs.List.{count_by};
 ghost use Rattle.mu_model_record.specs.declared.BankState.TheVariants.{Filling};
 ghost use Rattle.mu_model_record.specs.Record.{IsRecord, IsFilling, entry_of};
 ghost use Rattle.mu_record.specs.Reads.{ReadsOnly};
@@ -54,4 +55,13 @@ pub(crate) fn read_marks<F: Flash>(
         }
     }
     Ok(Some(held))
+}
+
+// How many of the first flags are set.
+pub(crate) fn count_flags(held: &[bool; 256], count: u16) -> u16
+    requires { count ≤ 256 }
+    ensures { result ≡ count_by (λ held. held) (take count held.now) }
+{
+    let first = &held[..count as usize];
+    first.iter().filter(|held| **held).count() as u16
 }

@@ -11,8 +11,8 @@ ghost use Rattle.mu_model_record.specs.Next.{IsNext, record_steps, fresh_after};
 ghost use Rattle.mu_model_record.specs.Changes.{next_record, sealed_entry, joined, blocks_in, sealed_or_not};
 ghost use Rattle.mu_store.specs.Booted.{FillingHolds};
 ghost use Rattle.mu_store.specs.View.{store_flash, store_record, store_fresh, StoreHolds, stopped_seen, ByFlash, StoreFaults};
-ghost use Rattle.mu_store.specs.FillingView.{filling_flash, filling_record, filling_fresh, filling_bank, filling_size, filling_log, filling_flags};
-ghost use Rattle.mu_store.specs.Sealed.{is_sealed, sealing_record, sealing_fresh, sealing_seen, SealingHolds, IsClosed, SealingFaults, HashedFaults, IsSameFilling, HasDigest};
+ghost use Rattle.mu_store.specs.FillingView.{filling_flash, filling_record, filling_fresh, filling_bank, filling_size, filling_log, filling_flags, IsSameFilling};
+ghost use Rattle.mu_store.specs.Sealed.{is_sealed, sealing_record, sealing_fresh, sealing_seen, SealingHolds, IsClosed, SealingFaults, HashedFaults, HasDigest};
 
 use crate::base::Base;
 use crate::digest::{bank_place, digest_of};
@@ -42,7 +42,7 @@ fn are_octets(digest: [u8; 32])
 }
 
 // Metadata of an image is in the ranges of its types. It does nothing.
-fn is_meta(meta: Meta)
+pub(crate) fn is_meta(meta: Meta)
     requires { 0 < meta.size }
     ensures { IsMeta meta }
 {
