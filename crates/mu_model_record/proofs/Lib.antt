@@ -16,5 +16,4 @@ pub mod RunOfPages
 pub mod PartLemmas
 pub mod BlockLemmas
 pub mod JoinLemmas
-pub mod PropLemmas
 pub mod TurnLemmas

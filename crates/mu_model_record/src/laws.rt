@@ -1,6 +1,7 @@
 //! Laws of code words and control pages: functions that do nothing, whose contracts are proved.
 ghost use Rattle.mu_model_record.specs.Laws.{CodedIsReadBack, CodeWordsAreCoded, CodedHasItsLength, OneOctetIsOnePair, PairsMakeACodeWord, ContentIsEveryFirst, PairOfOnesIsNoCodeWord, TornEraseFades, FadedHasNoNewWord, FadedIsSafe, WrittenPageHasItsWord, TornPageIsWholeOrDead, WrittenSlotHasItsWord, WrittenSlotIsSafe, TurnsOfAPage, TurnsOfASlot, SlotsOfAPage};
 ghost use Rattle.mu_model_record.specs.TurnLaws.{EraseLaws, WholePageLaws, SlotLaws, MarkLaw};
+ghost use Rattle.mu_model_record.specs.ChangeLaws.{NextRecordLaws, NextStateLaws, PlaceLaws, BlockLaws};
 ghost use Rattle.mu_model_record.specs.NextLaws.{NextOnOtherPage, NextInNextSlot, FirstRecordLaws};
 ghost use Rattle.mu_model_record.specs.StoreLaws.{OctetsSpellOneRecord, WordIsOfOneRecord, PresentRecordIsOne, RepresentedStateIsOne, RepresentedIsPresent, OneThingIsFound, RepresentedIsFound, FreeRangeMayChange};
 
@@ -70,4 +71,12 @@ pub fn next_records()
     ensures other_page { NextOnOtherPage }
     ensures next_slot { NextInNextSlot }
     ensures first { FirstRecordLaws }
+{}
+
+/// The states that the calls on a store give are next ones, and what lies outside a change stays.
+pub fn changes()
+    ensures records { NextRecordLaws }
+    ensures states { NextStateLaws }
+    ensures places { PlaceLaws }
+    ensures blocks { BlockLaws }
 {}

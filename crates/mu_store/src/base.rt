@@ -2,7 +2,7 @@
 ghost use Rattle.std.specs.Prelude.{◌≡◌, ◌+◌, ◌-◌, ◌*◌, ◌<◌, ◌≤◌, ◌^◌, IfOk, IfErr, IsTrue, OnOk, MatchResult, length, slice_index};
 ghost use Rattle.mu_model_record.specs.Record.{IsRecord};
 ghost use Rattle.mu_model_record.specs.Store.{pages_of};
-ghost use Rattle.mu_model_record.proofs.PropLemmas.{record_prop};
+ghost use Rattle.mu_model_record.specs.Props.{record_prop};
 ghost use Rattle.mu_record.specs.Place.{IsPlace};
 
 use crate::faults::{Stopped, StoreFault};

@@ -4,7 +4,7 @@ ghost use Rattle.mu_model_image.specs.Pieces.{block_count};
 ghost use Rattle.mu_model_record.specs.declared.BankState.TheVariants.{Filling};
 ghost use Rattle.mu_model_record.specs.Record.{IsRecord, entry_of};
 ghost use Rattle.mu_model_record.specs.Store.{mark_place, block_place};
-ghost use Rattle.mu_model_record.proofs.PropLemmas.{bank_set};
+ghost use Rattle.mu_model_record.specs.Props.{bank_set};
 
 use crate::base::Base;
 use crate::digest::bank_place;
