@@ -73,3 +73,8 @@ module _ {W : Type 0} (State : W → Type 0) (reading : (way : W) → Reading (S
     pub longer : (way : W) (s : State way) (xs ys : List (State way)) → Broke (reading way) s xs a b → Broke (reading way) s (xs ++ ys) a b
     -- a call that began no operation and changed no meaning is a run of none
     pub none : (way : W) (s : State way) → IsSound a → Unchanged a b → a.off ≡ false → (IsTrue a.told → (reading way).Is s a.octets) → Ran (reading way) s [] a b
+
+  -- of all flashes of a type
+  pub record RunLaws {F : Type 0} (seen : F → Seen) : Type 0 where
+    pub join : (a b c : F) → RunsJoin (seen a) (seen b) (seen c)
+    pub read : (a b : F) → RunsAreRead (seen a) (seen b)

@@ -11,6 +11,7 @@ mod faults;
 mod filling;
 mod formatting;
 mod judge;
+mod laws;
 mod marks;
 mod pages;
 mod plugging;
