@@ -12,7 +12,6 @@ pub mod ChangeLemmas
 pub mod KindLemmas
 pub mod OneLemmas
 pub mod FreeLemmas
-pub mod RunOfPages
 pub mod PartLemmas
 pub mod BlockLemmas
 pub mod JoinLemmas
