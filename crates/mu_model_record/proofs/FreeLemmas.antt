@@ -9,10 +9,11 @@ use Rattle.mu_model_record.specs.Store.{StoreState, content_of_bank}
 use Rattle.mu_model_record.specs.Represents.{RepresentsAt, RepresentsStore}
 use Rattle.mu_model_record.specs.Free.{IsFreeOf}
 use Rattle.mu_model_record.proofs.FrameLemmas.{represents_same}
+use Rattle.mu_model_flash.specs.Laws.{RangeLaws}
 
-module _ (page : ℕ) (word : Word) (d : StoreState) (old : List ℕ) (at n : ℕ) (past : 8192 ≤ at) (free : (b : ℕ) → b < d.present.number → IsFreeOf d.present b (entry_of d.present b) (content_of_bank d b) at n) (is : RepresentsAt page word d old) where
+module _ (ranges : RangeLaws) (page : ℕ) (word : Word) (d : StoreState) (old : List ℕ) (at n : ℕ) (past : 8192 ≤ at) (free : (b : ℕ) → b < d.present.number → IsFreeOf d.present b (entry_of d.present b) (content_of_bank d b) at n) (is : RepresentsAt page word d old) where
   pub free_same : (c : List ℕ) → SameOutside at n old c → RepresentsAt page word d c
-  free_same c out = represents_same page word d old c at n past out free is
+  free_same c out = (represents_same ranges) page word d old c at n past out free is
 
   stands : (c : List ℕ) → SameOutside at n old c → RepresentsStore d c
   stands c out = (page, word, free_same c out)

@@ -3,14 +3,14 @@ use Rattle.std.proofs.Common.{◌≡◌, ℕ, ◌+◌, ◌≤◌, List, ◌++◌
 use Rattle.std.proofs.lemmas.List.{ext_get_or, drop-drop}
 use Rattle.std.proofs.Math.Seq.{take-add}
 use Rattle.mu_model_flash.specs.Bits.{blank, part_of}
-use Rattle.mu_model_flash.proofs.BitLemmas.{length-blank, get-blank}
-use Rattle.mu_model_flash.proofs.RangeLemmas.{length-part, get-part}
+use Rattle.mu_model_flash.specs.Laws.{RangeLaws}
 
-pub blank_of_blank : (n at m : ℕ) → at + m ≤ n → part_of (blank n) at m ≡ blank m
-blank_of_blank n at m within =
-    let size = length-part (blank n) at m (omega (arith, within, length-blank n)) in
-    ext_get_or 0 (part_of (blank n) at m) (blank m) (size ∙ sym (length-blank m)) (λ i lt.
-    get-part (blank n) at m i (omega (arith, lt, size)) ∙ get-blank n (at + i) (omega (arith, within, lt, size)) ∙ sym (get-blank m i (omega (arith, lt, size))))
+module _ (ranges : RangeLaws) where
+  pub blank_of_blank : (n at m : ℕ) → at + m ≤ n → part_of (blank n) at m ≡ blank m
+  blank_of_blank n at m within =
+      let size = ranges.parts.length_part (blank n) at m (omega (arith, within, ranges.parts.length_blank n)) in
+      ext_get_or 0 (part_of (blank n) at m) (blank m) (size ∙ sym (ranges.parts.length_blank m)) (λ i lt.
+      ranges.parts.get_part (blank n) at m i (omega (arith, lt, size)) ∙ ranges.parts.get_blank n (at + i) (omega (arith, within, lt, size)) ∙ sym (ranges.parts.get_blank m i (omega (arith, lt, size))))
 
 pub part_joined : (c : List ℕ) (at n m : ℕ) → part_of c at n ++ part_of c (at + n) m ≡ part_of c at (n + m)
 unfolding part_of

@@ -16,15 +16,15 @@ returns-clause-records c = record {
 }
 
 pub returns-clause-states : goal.returns-clause-states
-returns-clause-states c = record { tagged = tagged_next; banked = bank_next; released = released_next }
+returns-clause-states c = record { tagged = (tagged_next c.ranges_of_octets.ensures); banked = (bank_next c.ranges_of_octets.ensures); released = (released_next c.ranges_of_octets.ensures) }
 
 pub returns-clause-places : goal.returns-clause-places
-returns-clause-places c = record { bank_within = bank_within; block_begins = block_begins; banks_same = banks_same; free_reads = free_reads }
+returns-clause-places c = record { bank_within = bank_within; block_begins = block_begins; banks_same = (banks_same c.ranges_of_octets.ensures); free_reads = (free_reads c.ranges_of_octets.ensures) }
 
 pub returns-clause-blocks : goal.returns-clause-blocks
 returns-clause-blocks c = record {
-  free = λ page word d image bank size log blocks is i lt. block_free page word d image is.represents bank size log is.there is.entry blocks is.content i lt;
-  represents = λ page word d image bank size log blocks is i lt octets lies. block_represents page word d image is.represents bank size log is.there is.entry blocks is.content i lt octets lies _ refl;
-  reads = λ page word d image bank size log blocks is i lt octets lies. mark_reads page word d image is.represents bank size log is.there is.entry blocks is.content i lt octets lies;
+  free = λ page word d image bank size log blocks is i lt. (block_free c.ranges_of_octets.ensures) page word d image is.represents bank size log is.there is.entry blocks is.content i lt;
+  represents = λ page word d image bank size log blocks is i lt octets lies. (block_represents c.ranges_of_octets.ensures) page word d image is.represents bank size log is.there is.entry blocks is.content i lt octets lies _ refl;
+  reads = λ page word d image bank size log blocks is i lt octets lies. (mark_reads c.ranges_of_octets.ensures) page word d image is.represents bank size log is.there is.entry blocks is.content i lt octets lies;
   joined_lie = bank_joined;
 }
