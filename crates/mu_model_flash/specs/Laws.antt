@@ -2,6 +2,7 @@
 use Rattle.std.specs.Prelude.{◌≡◌, ◌⊎◌, ℕ, ◌+◌, ◌<◌, ◌≤◌, false, IsTrue, List, [], ◌∷◌, ◌++◌, length, slice_index, slice_range}
 use Rattle.mu_model_flash.specs.Bits.{AreOctets, blank, written, part_of, SameOutside, Between}
 use Rattle.mu_model_flash.specs.Flash.{Seen, IsSound, Unchanged}
+use Rattle.mu_model_flash.specs.Patterns.{IsMade}
 use Rattle.mu_model_flash.specs.Run.{Reading, last_of, Refines, Keeps, Ran, Broke}
 
 -- Parts of octets.
@@ -41,6 +42,8 @@ pub record TornLaws : Type 0 where
   pub outside_between : (old : List ℕ) (at n : ℕ) → at + n ≤ length old → (first second : List ℕ) → length first ≡ n → length second ≡ n → (new : List ℕ) → Between (written old at first) (written old at second) new → SameOutside at n old new
   pub part_between : (old : List ℕ) (at n : ℕ) → at + n ≤ length old → (first second : List ℕ) → length first ≡ n → length second ≡ n → (new : List ℕ) → Between (written old at first) (written old at second) new → Between first second (part_of new at n)
   pub octets_between : (old new got : List ℕ) → AreOctets old → AreOctets new → Between old new got → AreOctets got
+  -- so does what a made pattern leaves
+  pub made_between : (seed : ℕ) (old : List ℕ) (at : ℕ) (bytes got : List ℕ) → at + length bytes ≤ length old → AreOctets old → AreOctets bytes → AreOctets got → IsMade seed old at bytes got → Between old (written old at bytes) got
   -- where one bit of an erased octet is cleared, that is done or not
   pub mark_torn : (old : List ℕ) (at : ℕ) → at + 1 ≤ length old → slice_index old at ≡ 255 → (new : List ℕ) → Between old (written old at (254 ∷ [])) new → (new ≡ old) ⊎ (new ≡ written old at (254 ∷ []))
   -- such an octet reads FF
@@ -73,3 +76,8 @@ module _ {W : Type 0} (State : W → Type 0) (reading : (way : W) → Reading (S
     pub longer : (way : W) (s : State way) (xs ys : List (State way)) → Broke (reading way) s xs a b → Broke (reading way) s (xs ++ ys) a b
     -- a call that began no operation and changed no meaning is a run of none
     pub none : (way : W) (s : State way) → IsSound a → Unchanged a b → a.off ≡ false → (IsTrue a.told → (reading way).Is s a.octets) → Ran (reading way) s [] a b
+
+  -- of all flashes of a type
+  pub record RunLaws {F : Type 0} (seen : F → Seen) : Type 0 where
+    pub join : (a b c : F) → RunsJoin (seen a) (seen b) (seen c)
+    pub read : (a b : F) → RunsAreRead (seen a) (seen b)

@@ -1,7 +1,7 @@
 //! Laws of flash runs: functions that do nothing, whose contracts are proved for any flash, any states and any reading.
 ghost use Rattle.std.specs.Prelude.{◌≡◌, ℕ, List, IsTrue, false, length};
 ghost use Rattle.mu_model_flash.specs.Flash.{Seen, IsBefore};
-ghost use Rattle.mu_model_flash.specs.Laws.{RangeLaws, RunsJoin, RunsAreRead};
+ghost use Rattle.mu_model_flash.specs.Laws.{RangeLaws, RunLaws};
 ghost use Rattle.mu_model_flash.specs.Run.{Reading, either, Ran, Broke};
 ghost use Rattle.mu_model_flash.specs.Sentences.{Done, Failing};
 
@@ -55,8 +55,7 @@ pub fn ranges_of_octets()
 
 /// Runs one after the other are a run of all their operations, and a run is read as one of other states, operation by operation.
 pub fn runs<R: Readings>()
-    ensures join { (a b c : R.Flash) → RunsJoin R.State R.reading (R.seen a) (R.seen b) (R.seen c) }
-    ensures read { (a b : R.Flash) → RunsAreRead R.State R.reading (R.seen a) (R.seen b) }
+    ensures { RunLaws R.State R.reading R.seen }
 {}
 
 /// Where calls fail by an armed operation alone, and none is armed within the operations, no call fails.

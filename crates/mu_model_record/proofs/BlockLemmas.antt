@@ -7,8 +7,6 @@ use Rattle.std.proofs.Math.ListN.{set, length-set}
 use Rattle.mu_model_image.specs.Pieces.{block_count, block_length, piece_count}
 use Rattle.mu_model_flash.specs.Bits.{written, part_of, SameOutside}
 use Rattle.mu_model_flash.specs.Run.{either, Refines}
-use Rattle.mu_model_flash.proofs.BitLemmas.{written-inside}
-use Rattle.mu_model_flash.proofs.RangeLemmas.{outside-written, part-outside}
 use Rattle.mu_model_record.specs.declared.BankState.{BankState}
 use Rattle.mu_model_record.specs.declared.BankState.TheVariants.{Empty, Filling, Sealed}
 use Rattle.mu_model_record.specs.Page.{Word}
@@ -20,6 +18,7 @@ use Rattle.mu_model_record.specs.Represents.{RepresentsAt, RepresentsStore}
 use Rattle.mu_model_record.specs.Changes.{blocks_in, with_block}
 use Rattle.mu_model_record.proofs.ControlLemmas.{control_same, same_page}
 use Rattle.mu_model_record.proofs.FrameLemmas.{bank_within, block_begins, block_in_size, bank_same}
+use Rattle.mu_model_flash.specs.Laws.{RangeLaws}
 
 -- whole pages
 module _ (log : ℕ) (least : 12 ≤ log) (few : log ≤ 14) where
@@ -72,7 +71,7 @@ module _ (size log i pages : ℕ) (least : 12 ≤ log) (few : log ≤ 14) (fits 
       omega (arith, top, place, begins, fits)
 
 -- the range of a block that isn't held has nothing of what the banks hold
-module _ (page : ℕ) (word : Word) (d : StoreState) (image : List ℕ) (at : RepresentsAt page word d image) (bank size log : ℕ) (there : bank < d.present.number) (entry : entry_of d.present bank ≡ Filling size log) (blocks : List (Option (List ℕ))) (content : content_of_bank d bank ≡ held blocks) where
+module _ (ranges : RangeLaws) (page : ℕ) (word : Word) (d : StoreState) (image : List ℕ) (at : RepresentsAt page word d image) (bank size log : ℕ) (there : bank < d.present.number) (entry : entry_of d.present bank ≡ Filling size log) (blocks : List (Option (List ℕ))) (content : content_of_bank d bank ≡ held blocks) where
   range : IsEntryInRange d.present (Filling size log)
   range = subst (λ (e : BankState). IsEntryInRange d.present e) entry (at.in_range.entries bank there)
 
@@ -174,18 +173,18 @@ module _ (page : ℕ) (word : Word) (d : StoreState) (image : List ℕ) (at : Re
           omega (arith, mark_low i lt, there, outer, at.size)
 
       out : SameOutside (mark_place bank i) 1 image c
-      out = subst (λ (x : List ℕ). SameOutside (mark_place bank i) 1 image x) (sym marked) (outside-written image (mark_place bank i) 1 mark_within (254 ∷ []) refl)
+      out = subst (λ (x : List ℕ). SameOutside (mark_place bank i) 1 image x) (sym marked) (ranges.writes.outside_written image (mark_place bank i) 1 mark_within (254 ∷ []) refl)
 
       set_mark : get_or c (mark_place bank i) 0 ≡ 254
       set_mark =
           let zero : mark_place bank i ≡ mark_place bank i + 0 = omega arith in
-          ap (λ (n : ℕ). get_or c n 0) zero ∙ ap (λ (x : List ℕ). get_or x (mark_place bank i + 0) 0) marked ∙ written-inside image (mark_place bank i) (254 ∷ []) mark_within 0 (omega arith)
+          ap (λ (n : ℕ). get_or c n 0) zero ∙ ap (λ (x : List ℕ). get_or x (mark_place bank i + 0) 0) marked ∙ ranges.writes.written_inside image (mark_place bank i) (254 ∷ []) mark_within 0 (omega arith)
 
       same_part : (j : ℕ) → j < block_count size log → part_of c (block_place d.present bank log j) (block_length size log j) ≡ part_of image (block_place d.present bank log j) (block_length size log j)
       same_part j j_lt =
           let inner = block_in_size size log j j_lt in
           let outer = bank_within d.present bank size there range.1 in
-          part-outside image c (mark_place bank i) 1 out (block_place d.present bank log j) (block_length size log j) (inr (omega (arith, mark_low i lt, there))) (omega (arith, inner, outer, at.size))
+          ranges.writes.part_outside image c (mark_place bank i) 1 out (block_place d.present bank log j) (block_length size log j) (inr (omega (arith, mark_low i lt, there))) (omega (arith, inner, outer, at.size))
 
       same_mark : (j : ℕ) → (j ≡ i → ⊥) → get_or c (mark_place bank j) 0 ≡ get_or image (mark_place bank j) 0
       same_mark j other = ⊎_elim (λ below. out.before (mark_place bank j) (omega (arith, below))) (λ above. out.after (mark_place bank j) (omega (arith, above))) (split j i other)
@@ -226,7 +225,7 @@ module _ (page : ℕ) (word : Word) (d : StoreState) (image : List ℕ) (at : Re
       block_represents = record {
         size = out.size ∙ at.size;
         in_range = at.in_range;
-        control = control_same page word d.present image c (λ q two. same_page image c (mark_place bank i) 1 q out (inl (omega (arith, two))) (omega (arith, at.size, two))) at.control;
+        control = control_same page word d.present image c (λ q two. (same_page ranges) image c (mark_place bank i) 1 q out (inl (omega (arith, two))) (omega (arith, at.size, two))) at.control;
         as_many = length-set d.contents bank (held (set (blocks_in (content_of_bank d bank)) i (Some octets))) ∙ at.as_many;
         banks = λ b b_lt. ⊎_elim (λ is. mine b is) (λ other. another b b_lt other) (cases_eq b bank);
       }
@@ -246,20 +245,21 @@ module _ (page : ℕ) (word : Word) (d : StoreState) (image : List ℕ) (at : Re
           another : (b : ℕ) → b < d.present.number → (b ≡ bank → ⊥) → BankHolds d.present b (entry_of d.present b) (slice_index_or (set d.contents bank (held (set (blocks_in (content_of_bank d bank)) i (Some octets)))) b nothing) c
           another b b_lt other =
               subst (λ (k : Content). BankHolds d.present b (entry_of d.present b) k c) (sym (get_or-set_other d.contents bank b (held (set (blocks_in (content_of_bank d bank)) i (Some octets))) nothing other))
-              (bank_same d.present b image c (mark_place bank i) 1 out at.size b_lt (entry_of d.present b) (content_of_bank d b) (at.in_range.entries b b_lt) (free b (entry_of d.present b) (content_of_bank d b) b_lt (not_filling b other)) (at.banks b b_lt))
+              ((bank_same ranges) d.present b image c (mark_place bank i) 1 out at.size b_lt (entry_of d.present b) (content_of_bank d b) (at.in_range.entries b b_lt) (free b (entry_of d.present b) (content_of_bank d b) b_lt (not_filling b other)) (at.banks b b_lt))
 
 -- the mark of a block whose octets lie at their place
-pub mark_reads : (page : ℕ) (word : Word) (d : StoreState) (image : List ℕ) (at : RepresentsAt page word d image) (bank size log : ℕ) → bank < d.present.number → entry_of d.present bank ≡ Filling size log → (blocks : List (Option (List ℕ))) → content_of_bank d bank ≡ held blocks
-    → (i : ℕ) → i < block_count size log → (octets : List ℕ) → part_of image (block_place d.present bank log i) (block_length size log i) ≡ octets
-    → Refines (either (MarkTurns image (mark_place bank i))) (either RepresentsStore) before (after ∷ []) d (with_block d bank i octets ∷ [])
-mark_reads page word d image at bank size log there entry blocks content i lt octets lies = (
-  λ c is. was c is,
-  λ c t. ⊎_elim (λ x. inl (was c x)) (λ x. inr (now c x)) t,
-  λ c is. now c is,
-)
-  where
-    was : (c : List ℕ) → c ≡ image → RepresentsStore d c
-    was c is = (page, word, subst (λ (x : List ℕ). RepresentsAt page word d x) (sym is) at)
+module _ (ranges : RangeLaws) where
+  pub mark_reads : (page : ℕ) (word : Word) (d : StoreState) (image : List ℕ) (at : RepresentsAt page word d image) (bank size log : ℕ) → bank < d.present.number → entry_of d.present bank ≡ Filling size log → (blocks : List (Option (List ℕ))) → content_of_bank d bank ≡ held blocks
+      → (i : ℕ) → i < block_count size log → (octets : List ℕ) → part_of image (block_place d.present bank log i) (block_length size log i) ≡ octets
+      → Refines (either (MarkTurns image (mark_place bank i))) (either RepresentsStore) before (after ∷ []) d (with_block d bank i octets ∷ [])
+  mark_reads page word d image at bank size log there entry blocks content i lt octets lies = (
+    λ c is. was c is,
+    λ c t. ⊎_elim (λ x. inl (was c x)) (λ x. inr (now c x)) t,
+    λ c is. now c is,
+  )
+    where
+      was : (c : List ℕ) → c ≡ image → RepresentsStore d c
+      was c is = (page, word, subst (λ (x : List ℕ). RepresentsAt page word d x) (sym is) at)
 
-    now : (c : List ℕ) → c ≡ written image (mark_place bank i) (254 ∷ []) → RepresentsStore (with_block d bank i octets) c
-    now c is = (page, word, block_represents page word d image at bank size log there entry blocks content i lt octets lies c is)
+      now : (c : List ℕ) → c ≡ written image (mark_place bank i) (254 ∷ []) → RepresentsStore (with_block d bank i octets) c
+      now c is = (page, word, (block_represents ranges) page word d image at bank size log there entry blocks content i lt octets lies c is)

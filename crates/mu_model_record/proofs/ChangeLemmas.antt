@@ -15,6 +15,7 @@ use Rattle.mu_model_record.specs.Represents.{ControlPages, RepresentsAt}
 use Rattle.mu_model_record.specs.Next.{IsNext}
 use Rattle.mu_model_record.specs.Changes.{first_record, first_state, next_record, tagged, with_bank, cleared, released}
 use Rattle.mu_model_record.proofs.FrameLemmas.{banks_same}
+use Rattle.mu_model_flash.specs.Laws.{RangeLaws}
 
 module _ (r : Record) (tag : List ℕ) (sound : IsRecord r) (next : r.count + 1 < 2 ^ 32) (size : length tag ≡ 1792) (small : AreOctets tag) where
   pub tagged_record : IsRecord (next_record r r.banks tag)
@@ -147,9 +148,9 @@ next_bank r others tag b (Sealed meta) nothing image h = absurd h
 next_bank r others tag b (Sealed meta) (held blocks) image h = absurd h
 next_bank r others tag b (Sealed meta) (whole octets) image h = h
 
-module _ (page : ℕ) (word : Word) (d : StoreState) (old : List ℕ) (at : RepresentsAt page word d old) where
+module _ (ranges : RangeLaws) (page : ℕ) (word : Word) (d : StoreState) (old : List ℕ) (at : RepresentsAt page word d old) where
   banks_then : (image : List ℕ) → SameOutside 0 8192 old image → (b : ℕ) → b < d.present.number → BankHolds d.present b (entry_of d.present b) (content_of_bank d b) image
-  banks_then image out = banks_same d.present (content_of_bank d) old image at.in_range at.size out at.banks
+  banks_then image out = (banks_same ranges) d.present (content_of_bank d) old image at.in_range at.size out at.banks
 
   pub tagged_next : (tag : List ℕ) → IsRecord (next_record d.present d.present.banks tag) → IsNext old d (tagged d tag)
   tagged_next tag sound = record {

@@ -1,10 +1,10 @@
 -- Pairs of octets that are complements, bit by bit.
-use Rattle.std.proofs.Common.{◌≡◌, ◌⊎◌, inl, inr, ⊎_elim, ℕ, zero, suc, ◌+◌, ◌-◌, ◌<◌, ◌≤◌, sym, ◌∙◌, ap, arith, w8}
+use Rattle.std.proofs.Common.{◌≡◌, ◌⊎◌, inl, inr, ⊎_elim, ℕ, zero, suc, ◌+◌, ◌-◌, ◌<◌, ◌≤◌, min, bit_and, sym, ◌∙◌, ap, subst, arith, w8}
 use Rattle.std.specs.Int.{bit_at}
-use Rattle.std.proofs.lemmas.Nat.Bits.{bit_at-lt, bit_at_above, bit_at_ones, bit_at_not, same_from_bits_below}
+use Rattle.std.proofs.lemmas.Nat.Bits.{bit_at-lt, bit_at_above, bit_at_ones, bit_at_not, same_from_bits, same_from_bits_below, bit_at_and}
+use Rattle.std.proofs.lemmas.Nat.{and_le_r}
 use Rattle.std.proofs.lemmas.Bool.{cases_eq}
 use Rattle.mu_model_flash.specs.Bits.{IsMixOf}
-use Rattle.mu_model_flash.proofs.BitLemmas.{le_from_bits}
 
 le_same : (x y : ℕ) → y ≡ x → x ≤ y
 le_same x y e = omega arith
@@ -17,6 +17,15 @@ le_zero x y e = omega arith
 
 split : (k n : ℕ) → (k < n) ⊎ (n ≤ k)
 split k n = grind arith
+
+min_low : (x y : ℕ) → x ≤ y → min x y ≡ x
+min_low x y le = omega arith
+
+-- no bit is above the other's
+le_from_bits : (a b : ℕ) → ((k : ℕ) → bit_at a k ≤ bit_at b k) → a ≤ b
+le_from_bits a b bits =
+    let same : bit_and a b ≡ a = same_from_bits (bit_and a b) a (λ k. bit_at_and a b k ∙ min_low (bit_at a k) (bit_at b k) (bits k)) in
+    subst (λ (x : ℕ). x ≤ b) same (and_le_r a b)
 
 -- an erase that is cut short clears no bit
 pub mix_above : (x g : ℕ) → x < 256 → IsMixOf x 255 g → (k : ℕ) → bit_at x k ≤ bit_at g k

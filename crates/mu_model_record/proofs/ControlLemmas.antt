@@ -1,7 +1,6 @@
 -- A write of a record on the control pages.
 use Rattle.std.proofs.Common.{◌≡◌, ◌⊎◌, inl, inr, ⊎_elim, ℕ, ◌+◌, ◌*◌, ◌<◌, ◌≤◌, List, length, refl, sym, ◌∙◌, ap, subst, arith}
 use Rattle.mu_model_flash.specs.Bits.{AreOctets, SameOutside}
-use Rattle.mu_model_flash.proofs.RangeLemmas.{part-outside, part-written, outside-written}
 use Rattle.mu_model_record.specs.declared.Record.{Record}
 use Rattle.mu_model_record.specs.Code.{coded, content_of, IsCodeWord, HasPairOfOnes}
 use Rattle.mu_model_record.specs.Page.{page_of, slot_of, slot_place, slot_in, format_of, IsLong, Word, page_word, slot_word, IsWord, IsSafePage, CanWriteSlot, SlotChanges}
@@ -12,10 +11,12 @@ use Rattle.mu_model_record.proofs.CodeLemmas.{length-coded, coded_is, content-co
 use Rattle.mu_model_record.proofs.PageLemmas.{coded_is_long, first_is_code}
 use Rattle.mu_model_record.proofs.SlotLemmas.{slot_words, slot_safe}
 use Rattle.mu_model_record.proofs.PlaceLemmas.{slot-of-page, slot_turned}
+use Rattle.mu_model_flash.specs.Laws.{RangeLaws}
 
 -- a page outside a range that was changed
-pub same_page : (old c : List ℕ) (at n q : ℕ) → SameOutside at n old c → (4096 * q + 4096 ≤ at) ⊎ (at + n ≤ 4096 * q) → 4096 * q + 4096 ≤ length old → page_of c q ≡ page_of old q
-same_page old c at n q out apart within = part-outside old c at n out (4096 * q) 4096 apart within
+module _ (ranges : RangeLaws) where
+  pub same_page : (old c : List ℕ) (at n q : ℕ) → SameOutside at n old c → (4096 * q + 4096 ≤ at) ⊎ (at + n ≤ 4096 * q) → 4096 * q + 4096 ≤ length old → page_of c q ≡ page_of old q
+  same_page old c at n q out apart within = ranges.writes.part_outside old c at n out (4096 * q) 4096 apart within
 
 -- both control pages are as they were
 pub control_same : (page : ℕ) (word : Word) (r : Record) (old c : List ℕ) → ((q : ℕ) → q < 2 → page_of c q ≡ page_of old q) → ControlPages page word r old → ControlPages page word r c
@@ -71,34 +72,34 @@ module _ (page other : ℕ) (two : other + page ≡ 1) (word : Word) (r : Record
   }
 
 -- a page that is written whole
-module _ (octets : List ℕ) (many : length octets ≡ 2048) (small : AreOctets octets) (long : format_of octets ≡ 1) where
+module _ (ranges : RangeLaws) (octets : List ℕ) (many : length octets ≡ 2048) (small : AreOctets octets) (long : format_of octets ≡ 1) where
   pub written_there : IsWord (coded octets) (page_word octets)
-  written_there = (first_is_code octets many small, coded_is_long octets many small long, coded_is octets small, sym (content-coded octets))
+  written_there = ((first_is_code ranges) octets many small, (coded_is_long ranges) octets many small long, coded_is octets small, sym (content-coded octets))
 
   pub written_safe : IsSafePage (coded octets)
   written_safe = record {
-    first = inl (first_is_code octets many small);
+    first = inl ((first_is_code ranges) octets many small);
     if_long = λ is l. inl (coded_is octets small);
-    if_short = λ is short j lt. absurd (short (coded_is_long octets many small long));
+    if_short = λ is short j lt. absurd (short ((coded_is_long ranges) octets many small long));
   }
 
 -- a slot that is written
-module _ (old : List ℕ) (q k : ℕ) (within : 4096 * q + 4096 ≤ length old) (octets : List ℕ) (many : length octets ≡ 512) (small : AreOctets octets) (can : CanWriteSlot (page_of old q) k) where
+module _ (ranges : RangeLaws) (old : List ℕ) (q k : ℕ) (within : 4096 * q + 4096 ≤ length old) (octets : List ℕ) (many : length octets ≡ 512) (small : AreOctets octets) (can : CanWriteSlot (page_of old q) k) where
   module _ (c : List ℕ) (turns : SlotTurns old q k octets before c) where
     changes : SlotChanges (page_of old q) (page_of c q) k octets
-    changes = slot_turned old c octets q k within can.few many (inl turns)
+    changes = (slot_turned ranges) old c octets q k within can.few many (inl turns)
 
     slot_within : 4096 * q + 4096 ≤ length c
     slot_within = omega (arith, within, turns.0.size)
 
     torn : HasPairOfOnes (slot_in (page_of c q) k)
-    torn = subst (λ (s : List ℕ). HasPairOfOnes s) (sym (slot-of-page c q k slot_within can.few)) turns.1
+    torn = subst (λ (s : List ℕ). HasPairOfOnes s) (sym ((slot-of-page ranges) c q k slot_within can.few)) turns.1
 
     pub torn_safe : IsSafePage (page_of old q) → IsSafePage (page_of c q)
-    torn_safe safe = slot_safe (page_of old q) (page_of c q) k octets small can changes safe
+    torn_safe safe = (slot_safe ranges) (page_of old q) (page_of c q) k octets small can changes safe
 
     pub torn_words : (v : Word) → IsWord (page_of c q) v → IsWord (page_of old q) v
-    torn_words v is = ⊎_elim (λ was. was) (λ new. absurd (never new)) (slot_words (page_of old q) (page_of c q) k octets small can changes v is)
+    torn_words v is = ⊎_elim (λ was. was) (λ new. absurd (never new)) ((slot_words ranges) (page_of old q) (page_of c q) k octets small can changes v is)
       where
         never : v ≡ slot_word k octets → ⊥
         never new = let w : IsWord (page_of c q) (slot_word k octets) = subst (λ (x : Word). IsWord (page_of c q) x) new is in ones_no_code (slot_in (page_of c q) k) torn w.3
@@ -117,7 +118,7 @@ module _ (old : List ℕ) (q k : ℕ) (within : 4096 * q + 4096 ≤ length old) 
 
   module _ (c : List ℕ) (turns : SlotTurns old q k octets after c) where
     changed : SlotChanges (page_of old q) (page_of c q) k octets
-    changed = slot_turned old c octets q k within can.few many (inr turns)
+    changed = (slot_turned ranges) old c octets q k within can.few many (inr turns)
 
     code : length (coded octets) ≡ 1024
     code = omega (arith, length-coded octets, many)
@@ -126,16 +127,16 @@ module _ (old : List ℕ) (q k : ℕ) (within : 4096 * q + 4096 ≤ length old) 
     place = omega (arith, within, can.few)
 
     after_size : length c ≡ length old
-    after_size = ap (length {A = ℕ}) turns ∙ (outside-written old (slot_place q k) 1024 place (coded octets) code).size
+    after_size = ap (length {A = ℕ}) turns ∙ (ranges.writes.outside_written old (slot_place q k) 1024 place (coded octets) code).size
 
     pub slot_is : slot_in (page_of c q) k ≡ coded octets
-    slot_is = slot-of-page c q k (omega (arith, within, after_size)) can.few ∙ ap (λ (o : List ℕ). slot_of o q k) turns ∙ part-written old (slot_place q k) 1024 place (coded octets) code
+    slot_is = (slot-of-page ranges) c q k (omega (arith, within, after_size)) can.few ∙ ap (λ (o : List ℕ). slot_of o q k) turns ∙ ranges.writes.part_written old (slot_place q k) 1024 place (coded octets) code
 
     pub set_safe : IsSafePage (page_of old q) → IsSafePage (page_of c q)
-    set_safe safe = slot_safe (page_of old q) (page_of c q) k octets small can changed safe
+    set_safe safe = (slot_safe ranges) (page_of old q) (page_of c q) k octets small can changed safe
 
     pub set_words : (v : Word) → IsWord (page_of c q) v → IsWord (page_of old q) v ⊎ (v ≡ slot_word k octets)
-    set_words v is = slot_words (page_of old q) (page_of c q) k octets small can changed v is
+    set_words v is = (slot_words ranges) (page_of old q) (page_of c q) k octets small can changed v is
 
     set_content : octets ≡ content_of (slot_in (page_of c q) k)
     set_content = sym (content-coded octets) ∙ ap content_of (sym slot_is)

@@ -5,7 +5,6 @@ use Rattle.std.proofs.Math.Nat.{div-add-mod'}
 use Rattle.std.proofs.lemmas.Nat.{pow_pos}
 use Rattle.mu_model_image.specs.Pieces.{block_count, block_length}
 use Rattle.mu_model_flash.specs.Bits.{SameOutside}
-use Rattle.mu_model_flash.proofs.RangeLemmas.{part-outside}
 use Rattle.mu_model_record.specs.declared.Record.{Record}
 use Rattle.mu_model_record.specs.declared.BankState.{BankState}
 use Rattle.mu_model_record.specs.declared.BankState.TheVariants.{Empty, Filling, Sealed}
@@ -15,6 +14,7 @@ use Rattle.mu_model_record.specs.Store.{Content, nothing, held, whole, StoreStat
 use Rattle.mu_model_record.specs.Free.{Apart, IsFreeOf}
 use Rattle.mu_model_record.specs.Represents.{RepresentsAt}
 use Rattle.mu_model_record.proofs.ControlLemmas.{control_same, same_page}
+use Rattle.mu_model_flash.specs.Laws.{RangeLaws}
 
 mul_le : (m n k : ℕ) → m ≤ n → m * k ≤ n * k
 mul_le m n k le = grind arith
@@ -44,7 +44,7 @@ block_in_size size log i lt =
     least : (p e size : ℕ) → p < size → p + (min size e - p) ≤ size
     least p e size lt = omega arith
 
-module _ (r : Record) (b : ℕ) (old c : List ℕ) (at n : ℕ) (out : SameOutside at n old c) (size : length old ≡ 4096 * pages_of r) (there : b < r.number) where
+module _ (ranges : RangeLaws) (r : Record) (b : ℕ) (old c : List ℕ) (at n : ℕ) (out : SameOutside at n old c) (size : length old ≡ 4096 * pages_of r) (there : b < r.number) where
   pub mark_same : (i : ℕ) → Apart at n (mark_place b i) 1 → get_or c (mark_place b i) 0 ≡ get_or old (mark_place b i) 0
   mark_same i (inl below) = out.before (mark_place b i) (omega (arith, below))
   mark_same i (inr above) = out.after (mark_place b i) above
@@ -56,7 +56,7 @@ module _ (r : Record) (b : ℕ) (old c : List ℕ) (at n : ℕ) (out : SameOutsi
       let inner = block_in_size most log i lt in
       let within = bank_within r b most there fits in (
         mark_same i apart ∙ lies.0,
-        part-outside old c at n out (block_place r b log i) (block_length most log i) (free octets refl) (omega (arith, inner, within, size)) ∙ lies.1,
+        ranges.writes.part_outside old c at n out (block_place r b log i) (block_length most log i) (free octets refl) (omega (arith, inner, within, size)) ∙ lies.1,
       )
 
   pub bank_same : (entry : BankState) (content : Content) → IsEntryInRange r entry → IsFreeOf r b entry content at n → BankHolds r b entry content old → BankHolds r b entry content c
@@ -71,7 +71,7 @@ module _ (r : Record) (b : ℕ) (old c : List ℕ) (at n : ℕ) (out : SameOutsi
   bank_same (Sealed meta) (held blocks) range free holds = absurd holds
   bank_same (Sealed meta) (whole octets) range free holds =
       let within = bank_within r b meta.size there range.1 in
-      (part-outside old c at n out (bank_place r b) meta.size free (omega (arith, within, size)) ∙ holds.0, holds.1)
+      (ranges.writes.part_outside old c at n out (bank_place r b) meta.size free (omega (arith, within, size)) ∙ holds.0, holds.1)
 
 -- nothing that a bank holds lies on the control pages
 pub control_free : (r : Record) (b : ℕ) (entry : BankState) (content : Content) → IsFreeOf r b entry content 0 8192
@@ -82,18 +82,20 @@ control_free r b (Filling size log) (held blocks) = (λ i lt. inr (omega arith),
 control_free r b (Sealed meta) content = inr (omega arith)
 
 -- whatever the control pages have, the banks hold the same
-pub banks_same : (r : Record) (contents : ℕ → Content) (old c : List ℕ) → IsRecord r → length old ≡ 4096 * pages_of r → SameOutside 0 8192 old c
-    → ((b : ℕ) → b < r.number → BankHolds r b (entry_of r b) (contents b) old) → (b : ℕ) → b < r.number → BankHolds r b (entry_of r b) (contents b) c
-banks_same r contents old c sound size out holds b lt =
-    bank_same r b old c 0 8192 out size lt (entry_of r b) (contents b) (sound.entries b lt) (control_free r b (entry_of r b) (contents b)) (holds b lt)
+module _ (ranges : RangeLaws) where
+  pub banks_same : (r : Record) (contents : ℕ → Content) (old c : List ℕ) → IsRecord r → length old ≡ 4096 * pages_of r → SameOutside 0 8192 old c
+      → ((b : ℕ) → b < r.number → BankHolds r b (entry_of r b) (contents b) old) → (b : ℕ) → b < r.number → BankHolds r b (entry_of r b) (contents b) c
+  banks_same r contents old c sound size out holds b lt =
+      (bank_same ranges) r b old c 0 8192 out size lt (entry_of r b) (contents b) (sound.entries b lt) (control_free r b (entry_of r b) (contents b)) (holds b lt)
 
 -- an operation on a range past the control pages that has nothing of what the banks hold
-pub represents_same : (page : ℕ) (word : Word) (d : StoreState) (old c : List ℕ) (at n : ℕ) → 8192 ≤ at → SameOutside at n old c
-    → ((b : ℕ) → b < d.present.number → IsFreeOf d.present b (entry_of d.present b) (content_of_bank d b) at n) → RepresentsAt page word d old → RepresentsAt page word d c
-represents_same page word d old c at n past out free is = record {
-  size = out.size ∙ is.size;
-  in_range = is.in_range;
-  control = control_same page word d.present old c (λ q two. same_page old c at n q out (inl (omega (arith, past, two))) (omega (arith, is.size, two))) is.control;
-  as_many = is.as_many;
-  banks = λ b lt. bank_same d.present b old c at n out is.size lt (entry_of d.present b) (content_of_bank d b) (is.in_range.entries b lt) (free b lt) (is.banks b lt);
-}
+module _ (ranges : RangeLaws) where
+  pub represents_same : (page : ℕ) (word : Word) (d : StoreState) (old c : List ℕ) (at n : ℕ) → 8192 ≤ at → SameOutside at n old c
+      → ((b : ℕ) → b < d.present.number → IsFreeOf d.present b (entry_of d.present b) (content_of_bank d b) at n) → RepresentsAt page word d old → RepresentsAt page word d c
+  represents_same page word d old c at n past out free is = record {
+    size = out.size ∙ is.size;
+    in_range = is.in_range;
+    control = control_same page word d.present old c (λ q two. (same_page ranges) old c at n q out (inl (omega (arith, past, two))) (omega (arith, is.size, two))) is.control;
+    as_many = is.as_many;
+    banks = λ b lt. (bank_same ranges) d.present b old c at n out is.size lt (entry_of d.present b) (content_of_bank d b) (is.in_range.entries b lt) (free b lt) (is.banks b lt);
+  }

@@ -1,7 +1,7 @@
 -- Operations on a range that has nothing of what a store's banks hold.
-use Rattle.std.proofs.Common.{◌≡◌, ◌⊎◌, inl, inr, ℕ, zero, suc, ◌<◌, ◌≤◌, List, length, replicate, refl, ap}
+use Rattle.std.proofs.Common.{◌⊎◌, inl, inr, ℕ, zero, suc, ◌<◌, ◌≤◌, List, replicate}
 use Rattle.mu_model_flash.specs.Bits.{SameOutside}
-use Rattle.mu_model_flash.specs.Run.{either, Refines, last_of}
+use Rattle.mu_model_flash.specs.Run.{either, Refines}
 use Rattle.mu_model_record.specs.Page.{Word}
 use Rattle.mu_model_record.specs.Turns.{StaysOutside}
 use Rattle.mu_model_record.specs.Record.{entry_of}
@@ -9,19 +9,11 @@ use Rattle.mu_model_record.specs.Store.{StoreState, content_of_bank}
 use Rattle.mu_model_record.specs.Represents.{RepresentsAt, RepresentsStore}
 use Rattle.mu_model_record.specs.Free.{IsFreeOf}
 use Rattle.mu_model_record.proofs.FrameLemmas.{represents_same}
+use Rattle.mu_model_flash.specs.Laws.{RangeLaws}
 
--- the same state, so many times
-pub last_same : {S : Type 0} (d : S) (n : ℕ) → last_of d (replicate n d) ≡ d
-last_same d zero = refl
-last_same d (suc n) = last_same d n
-
-pub length_same : {S T : Type 0} (d : S) (e : T) (n : ℕ) → length (replicate n d) ≡ length (replicate n e)
-length_same d e zero = refl
-length_same d e (suc n) = ap (λ (k : ℕ). suc k) (length_same d e n)
-
-module _ (page : ℕ) (word : Word) (d : StoreState) (old : List ℕ) (at n : ℕ) (past : 8192 ≤ at) (free : (b : ℕ) → b < d.present.number → IsFreeOf d.present b (entry_of d.present b) (content_of_bank d b) at n) (is : RepresentsAt page word d old) where
+module _ (ranges : RangeLaws) (page : ℕ) (word : Word) (d : StoreState) (old : List ℕ) (at n : ℕ) (past : 8192 ≤ at) (free : (b : ℕ) → b < d.present.number → IsFreeOf d.present b (entry_of d.present b) (content_of_bank d b) at n) (is : RepresentsAt page word d old) where
   pub free_same : (c : List ℕ) → SameOutside at n old c → RepresentsAt page word d c
-  free_same c out = represents_same page word d old c at n past out free is
+  free_same c out = (represents_same ranges) page word d old c at n past out free is
 
   stands : (c : List ℕ) → SameOutside at n old c → RepresentsStore d c
   stands c out = (page, word, free_same c out)

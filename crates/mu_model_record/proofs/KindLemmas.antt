@@ -1,18 +1,15 @@
 -- What a boot finds on a flash that represents a store.
-use Rattle.std.proofs.Common.{◌≡◌, ◌⊎◌, inl, inr, ⊎_elim, ℕ, ◌*◌, ◌<◌, ◌≤◌, Option, Some, None, List, refl, sym, ◌∙◌, ap, subst, arith}
+use Rattle.std.proofs.Common.{◌≡◌, ◌⊎◌, inl, inr, ⊎_elim, ℕ, ◌<◌, ◌≤◌, Option, Some, None, List, refl, sym, ◌∙◌, ap, subst, arith}
 use Rattle.std.specs.Prelude.{slice_index, slice_index_or}
 use Rattle.sha2.specs.Sha256.{sha256}
 use Rattle.mu_model_image.specs.declared.Meta.{Meta}
 use Rattle.mu_model_image.specs.Pieces.{block_count}
-use Rattle.mu_model_record.specs.declared.Record.{Record}
 use Rattle.mu_model_record.specs.declared.BankState.{BankState}
 use Rattle.mu_model_record.specs.declared.BankState.TheVariants.{Filling, Sealed}
 use Rattle.mu_model_record.specs.Page.{Word}
-use Rattle.mu_model_record.specs.Record.{IsWordOf}
-use Rattle.mu_model_record.specs.Store.{Content, nothing, held, whole, StoreState, content_of_bank, pages_of, mark_place, BlockLies, BankHolds}
+use Rattle.mu_model_record.specs.Store.{Content, nothing, held, whole, StoreState, content_of_bank, mark_place, BlockLies, BankHolds}
 use Rattle.mu_model_record.specs.Represents.{RepresentsAt}
-use Rattle.mu_model_record.specs.Kinds.{HasWord, IsBehind, IsPresent, HasPresent, AreMarks, AreFitBelow, sealed_octets, IsBlank, IsForeign, other_word, other_size, other_mark, IsDamaged, IsStore}
-use Rattle.mu_model_record.proofs.RecordLemmas.{word_once}
+use Rattle.mu_model_record.specs.Kinds.{HasWord, IsBehind, IsPresent, HasPresent, AreMarks, AreFitBelow, sealed_octets, IsStore}
 
 module _ (page : ℕ) (word : Word) (d : StoreState) (image : List ℕ) (at : RepresentsAt page word d image) where
   pub has_word : HasWord image page word
@@ -28,22 +25,6 @@ module _ (page : ℕ) (word : Word) (d : StoreState) (image : List ℕ) (at : Re
 
   pub is_present : IsPresent image page word d.present
   is_present = record { there = has_word; spells = at.control.spells; in_range = at.in_range; greatest = behind }
-
-  -- the present record is one
-  pub present_once : (p : ℕ) (w : Word) (r : Record) → IsPresent image p w r → (p ≡ page) × (w ≡ word) × (r ≡ d.present)
-  present_once p w r is = ⊎_elim
-      (λ same. (same.0, same.1, word_once word r d.present is.in_range at.in_range (subst (λ (x : Word). IsWordOf x r) same.1 is.spells) at.control.spells))
-      (λ older.
-      let mine = is.greatest page word has_word in
-      let mine_is : mine.0 ≡ d.present = word_once word mine.0 d.present mine.2 at.in_range mine.1 at.control.spells in
-      let its : older.0 ≡ r = word_once w older.0 r older.2 is.in_range older.1 is.spells in
-      let mine_count : mine.0.count ≡ d.present.count = ap (λ (s : Record). s.count) mine_is in
-      let its_count : older.0.count ≡ r.count = ap (λ (s : Record). s.count) its in
-      absurd (⊎_elim (λ less. never (omega (arith, less, mine_count, its_count, older.3))) (λ equal. never (omega (arith, equal.0, mine_count, its_count, older.3))) mine.3))
-      (at.control.others p is.there.control w is.there.there)
-    where
-      never : ⊥ → ⊥
-      never f = f
 
   marks_of : (b size log : ℕ) (content : Content) → BankHolds d.present b (Filling size log) content image → (i : ℕ) → i < block_count size log → (slice_index image (mark_place b i) ≡ 0xFF) ⊎ (slice_index image (mark_place b i) ≡ 0xFE)
   marks_of b size log nothing holds i lt = absurd holds
@@ -70,17 +51,3 @@ module _ (page : ℕ) (word : Word) (d : StoreState) (image : List ℕ) (at : Re
 
   pub is_store : IsStore image d.present
   is_store = record { is_present = has_present; marks = are_marks; fit = are_fit d.present.number (omega arith) }
-
-  pub not_blank : IsBlank image → ⊥
-  not_blank blank = blank page word has_word
-
-  pub not_foreign : IsForeign image → ⊥
-  not_foreign (other_word q v has not) = let b = behind q v has in not (b.0, b.1, b.2)
-  not_foreign (other_size p w r is differ) = differ (at.size ∙ ap (λ (s : Record). 4096 * pages_of s) (sym (present_once p w r is).2))
-  not_foreign (other_mark r is not) = not (subst (λ (s : Record). AreMarks s image) (sym (present_once is.page is.word r is.is).2) are_marks)
-
-  pub not_damaged : (bank : ℕ) (want found : List ℕ) → IsDamaged image bank want found → ⊥
-  not_damaged bank want found damaged =
-      let same : damaged.present ≡ d.present = (present_once damaged.is_present.page damaged.is_present.word damaged.present damaged.is_present.is).2 in
-      let fit : AreFitBelow damaged.present.number damaged.present image = subst (λ (s : Record). AreFitBelow s.number s image) (sym same) (are_fit d.present.number (omega arith)) in
-      damaged.differ (damaged.found_is ∙ fit bank damaged.meta damaged.there damaged.sealed_with ∙ sym damaged.want_is)

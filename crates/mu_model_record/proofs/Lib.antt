@@ -12,9 +12,7 @@ pub mod ChangeLemmas
 pub mod KindLemmas
 pub mod OneLemmas
 pub mod FreeLemmas
-pub mod RunOfPages
 pub mod PartLemmas
 pub mod BlockLemmas
 pub mod JoinLemmas
-pub mod PropLemmas
 pub mod TurnLemmas

@@ -2,45 +2,52 @@
 use Rattle.std.proofs.Common.{◌≡◌, ◌⊎◌, inl, inr, ⊎_elim, ℕ, ◌+◌, ◌*◌, ◌<◌, ◌≤◌, List, [], ◌∷◌, length, take, get_or, refl, sym, ◌∙◌, ap, subst, arith, length-take}
 use Rattle.std.proofs.lemmas.List.{get_or-take, get_or_past}
 use Rattle.std.proofs.lemmas.Bool.{cases_eq}
-use Rattle.mu_model_flash.specs.Bits.{AreOctets, blank, part_of, Between}
-use Rattle.mu_model_flash.proofs.BitLemmas.{length-blank, get-blank}
-use Rattle.mu_model_flash.proofs.RangeLemmas.{length-part, get-part, mix_at}
+use Rattle.mu_model_flash.specs.Bits.{AreOctets, blank, part_of, IsMixOf, Between}
 use Rattle.mu_model_record.proofs.CodeBits.{mix_swap}
 use Rattle.mu_model_record.specs.Code.{coded, content_of, IsCodeWord, HasPairOfOnes, IsSafe, Fades}
 use Rattle.mu_model_record.specs.Page.{slot_in, format_of, IsLong, Word, page_word, slot_word, IsWord, IsSafePage, IsDead, PageFades}
 use Rattle.mu_model_record.proofs.CodeLemmas.{length-coded, coded_is, content-coded, Raised, raised_from, raised_code, raised_safe, ones_no_code, ones_first, take-coded}
+use Rattle.mu_model_flash.specs.Laws.{RangeLaws}
 
 long_or_not : (page : List ℕ) → IsLong page ⊎ ¬ IsLong page
 long_or_not page = cases_eq (format_of (content_of (slot_in page 0))) 1
 
--- a torn erase turns bits to 1, in each part
-raised_between : (old new : List ℕ) → Between old (blank (length old)) new → Raised old new
-raised_between old new torn =
-    raised_from old new torn.size (λ i lt. mix_at _ _ _ _ _ _ refl (get-blank (length old) i lt) refl (torn.bits i))
+mix_at : (a b g a' b' g' : ℕ) → a ≡ a' → b ≡ b' → g' ≡ g → IsMixOf a b g → IsMixOf a' b' g'
+mix_at a b g a' b' g' a_is b_is g_is mix =
+    subst (λ (x : ℕ). IsMixOf x b' g') a_is (subst (λ (y : ℕ). IsMixOf a y g') b_is (subst (λ (z : ℕ). IsMixOf a b z) (sym g_is) mix))
 
-raised_part : (old new : List ℕ) (at n : ℕ) → at + n ≤ length old → Between old (blank (length old)) new → Raised (part_of old at n) (part_of new at n)
-raised_part old new at n within torn =
-    let here : length (part_of old at n) ≡ n = length-part old at n within in
-    let there : length (part_of new at n) ≡ n = length-part new at n (omega (arith, within, torn.size)) in
-    raised_from (part_of old at n) (part_of new at n) (there ∙ sym here) (λ i lt.
-    let low : i < n = omega (arith, lt, here) in
-    mix_at _ _ _ _ _ _ (sym (get-part old at n i low)) (get-blank (length old) (at + i) (omega (arith, low, within))) (get-part new at n i low) (torn.bits (at + i)))
+-- a torn erase turns bits to 1, in each part
+module _ (ranges : RangeLaws) where
+  raised_between : (old new : List ℕ) → Between old (blank (length old)) new → Raised old new
+  raised_between old new torn =
+      raised_from old new torn.size (λ i lt. mix_at _ _ _ _ _ _ refl (ranges.parts.get_blank (length old) i lt) refl (torn.bits i))
+
+module _ (ranges : RangeLaws) where
+  raised_part : (old new : List ℕ) (at n : ℕ) → at + n ≤ length old → Between old (blank (length old)) new → Raised (part_of old at n) (part_of new at n)
+  raised_part old new at n within torn =
+      let here : length (part_of old at n) ≡ n = ranges.parts.length_part old at n within in
+      let there : length (part_of new at n) ≡ n = ranges.parts.length_part new at n (omega (arith, within, torn.size)) in
+      raised_from (part_of old at n) (part_of new at n) (there ∙ sym here) (λ i lt.
+      let low : i < n = omega (arith, lt, here) in
+      mix_at _ _ _ _ _ _ (sym (ranges.parts.get_part old at n i low)) (ranges.parts.get_blank (length old) (at + i) (omega (arith, low, within))) (ranges.parts.get_part new at n i low) (torn.bits (at + i)))
 
 -- a program of a code word that is cut short
-pub torn_code : (word got : List ℕ) → IsCodeWord word → Between (blank (length word)) word got → (got ≡ word) ⊎ HasPairOfOnes got
-torn_code word got is torn = raised_code word got is (raised_between word got swapped)
-  where
-    swapped : Between word (blank (length word)) got
-    swapped = record { size = torn.size ∙ length-blank (length word); bits = λ i. mix_swap _ _ _ (torn.bits i) }
+module _ (ranges : RangeLaws) where
+  pub torn_code : (word got : List ℕ) → IsCodeWord word → Between (blank (length word)) word got → (got ≡ word) ⊎ HasPairOfOnes got
+  torn_code word got is torn = raised_code word got is ((raised_between ranges) word got swapped)
+    where
+      swapped : Between word (blank (length word)) got
+      swapped = record { size = torn.size ∙ ranges.parts.length_blank (length word); bits = λ i. mix_swap _ _ _ (torn.bits i) }
 
-pub torn_erase : (old new : List ℕ) → length old ≡ 4096 → IsSafePage old → Between old (blank 4096) new → PageFades old new
-torn_erase old new size safe torn =
-    let t : Between old (blank (length old)) new = subst (λ (n : ℕ). Between old (blank n) new) (sym size) torn in
-    record {
-      first = raised_safe (slot_in old 0) (slot_in new 0) safe.first (raised_part old new (1024 * 0) 1024 (omega (arith, size)) t);
-      if_long = λ is long. raised_safe old new (safe.if_long is long) (raised_between old new t);
-      if_short = λ is short k lt. raised_safe (slot_in old k) (slot_in new k) (safe.if_short is short k lt) (raised_part old new (1024 * k) 1024 (omega (arith, size, lt)) t);
-    }
+module _ (ranges : RangeLaws) where
+  pub torn_erase : (old new : List ℕ) → length old ≡ 4096 → IsSafePage old → Between old (blank 4096) new → PageFades old new
+  torn_erase old new size safe torn =
+      let t : Between old (blank (length old)) new = subst (λ (n : ℕ). Between old (blank n) new) (sym size) torn in
+      record {
+        first = raised_safe (slot_in old 0) (slot_in new 0) safe.first ((raised_part ranges) old new (1024 * 0) 1024 (omega (arith, size)) t);
+        if_long = λ is long. raised_safe old new (safe.if_long is long) ((raised_between ranges) old new t);
+        if_short = λ is short k lt. raised_safe (slot_in old k) (slot_in new k) (safe.if_short is short k lt) ((raised_part ranges) old new (1024 * k) 1024 (omega (arith, size, lt)) t);
+      }
 
 -- a page that reads FF
 pub ff_pair : (page : List ℕ) → 2 ≤ length page → get_or page 0 0 ≡ 255 → get_or page 1 0 ≡ 255 → HasPairOfOnes page
@@ -48,30 +55,34 @@ ff_pair [] size first second = absurd (omega (arith, size))
 ff_pair (x ∷ []) size first second = absurd (omega (arith, size))
 ff_pair (x ∷ y ∷ rest) size first second = subst (λ (a : ℕ). HasPairOfOnes (a ∷ y ∷ rest)) (sym first) (subst (λ (b : ℕ). HasPairOfOnes (255 ∷ b ∷ rest)) (sym second) (ones_first rest))
 
-pub blank_pair : (c : List ℕ) (at n : ℕ) → 2 ≤ n → at + n ≤ length c → get_or c at 0 ≡ 255 → get_or c (at + 1) 0 ≡ 255 → HasPairOfOnes (part_of c at n)
-blank_pair c at n many within first second =
-    let zero_on : at + 0 ≡ at = omega arith in
-    ff_pair (part_of c at n) (omega (arith, length-part c at n within, many))
-    (get-part c at n 0 (omega (arith, many)) ∙ ap (λ (i : ℕ). get_or c i 0) zero_on ∙ first)
-    (get-part c at n 1 (omega (arith, many)) ∙ second)
+module _ (ranges : RangeLaws) where
+  pub blank_pair : (c : List ℕ) (at n : ℕ) → 2 ≤ n → at + n ≤ length c → get_or c at 0 ≡ 255 → get_or c (at + 1) 0 ≡ 255 → HasPairOfOnes (part_of c at n)
+  blank_pair c at n many within first second =
+      let zero_on : at + 0 ≡ at = omega arith in
+      ff_pair (part_of c at n) (omega (arith, ranges.parts.length_part c at n within, many))
+      (ranges.parts.get_part c at n 0 (omega (arith, many)) ∙ ap (λ (i : ℕ). get_or c i 0) zero_on ∙ first)
+      (ranges.parts.get_part c at n 1 (omega (arith, many)) ∙ second)
 
-pub blank_slot : (k : ℕ) → k < 4 → HasPairOfOnes (slot_in (blank 4096) k)
-blank_slot k lt =
-    let ff : length (blank 4096) ≡ 4096 = length-blank 4096 in
-    blank_pair (blank 4096) (1024 * k) 1024 (omega arith) (omega (arith, ff, lt)) (get-blank 4096 (1024 * k) (omega (arith, lt))) (get-blank 4096 (1024 * k + 1) (omega (arith, lt)))
+module _ (ranges : RangeLaws) where
+  pub blank_slot : (k : ℕ) → k < 4 → HasPairOfOnes (slot_in (blank 4096) k)
+  blank_slot k lt =
+      let ff : length (blank 4096) ≡ 4096 = ranges.parts.length_blank 4096 in
+      (blank_pair ranges) (blank 4096) (1024 * k) 1024 (omega arith) (omega (arith, ff, lt)) (ranges.parts.get_blank 4096 (1024 * k) (omega (arith, lt))) (ranges.parts.get_blank 4096 (1024 * k + 1) (omega (arith, lt)))
 
-blank_page : HasPairOfOnes (blank 4096)
-blank_page =
-    let ff : length (blank 4096) ≡ 4096 = length-blank 4096 in
-    ff_pair (blank 4096) (omega (arith, ff)) (get-blank 4096 0 (omega arith)) (get-blank 4096 1 (omega arith))
+module _ (ranges : RangeLaws) where
+  blank_page : HasPairOfOnes (blank 4096)
+  blank_page =
+      let ff : length (blank 4096) ≡ 4096 = ranges.parts.length_blank 4096 in
+      ff_pair (blank 4096) (omega (arith, ff)) (ranges.parts.get_blank 4096 0 (omega arith)) (ranges.parts.get_blank 4096 1 (omega arith))
 
 -- an erase that was done
-pub erased_fades : (old : List ℕ) → PageFades old (blank 4096)
-erased_fades old = record {
-  first = inr (blank_slot 0 (omega arith));
-  if_long = λ is long. inr blank_page;
-  if_short = λ is short k lt. inr (blank_slot k lt);
-}
+module _ (ranges : RangeLaws) where
+  pub erased_fades : (old : List ℕ) → PageFades old (blank 4096)
+  erased_fades old = record {
+    first = inr ((blank_slot ranges) 0 (omega arith));
+    if_long = λ is long. inr (blank_page ranges);
+    if_short = λ is short k lt. inr ((blank_slot ranges) k lt);
+  }
 
 pub fades_same : (page : List ℕ) → PageFades page page
 fades_same page = record { first = inl refl; if_long = λ is long. inl refl; if_short = λ is short k lt. inl refl }
@@ -137,7 +148,7 @@ faded_is_safe old new safe (inl fades) = record {
 }
 
 -- a coded page, slot by slot
-module _ (octets : List ℕ) (many : length octets ≡ 2048) (small : AreOctets octets) where
+module _ (ranges : RangeLaws) (octets : List ℕ) (many : length octets ≡ 2048) (small : AreOctets octets) where
   first_slot : slot_in (coded octets) 0 ≡ coded (take 512 octets)
   unfolding part_of
   first_slot = take-coded octets 512
@@ -169,8 +180,8 @@ module _ (octets : List ℕ) (many : length octets ≡ 2048) (small : AreOctets 
       (λ ones. inr (⊎_elim
       (λ first. inr (subst (λ (s : List ℕ). IsCodeWord s) (sym first) first_is_code, ap (λ (s : List ℕ). format_of (content_of s)) first ∙ coded_is_long is, ones))
       (λ pair. inl pair)
-      (raised_code (slot_in (coded octets) 0) (slot_in c 0) first_is_code (raised_part (coded octets) c (1024 * 0) 1024 (omega (arith, size)) t))))
-      (raised_code (coded octets) c (coded_is octets small) (raised_between (coded octets) c t))
+      (raised_code (slot_in (coded octets) 0) (slot_in c 0) first_is_code ((raised_part ranges) (coded octets) c (1024 * 0) 1024 (omega (arith, size)) t))))
+      (raised_code (coded octets) c (coded_is octets small) ((raised_between ranges) (coded octets) c t))
     where
       swapped : Between (blank 4096) (coded octets) c → length (coded octets) ≡ 4096 → Between (coded octets) (blank 4096) c
-      swapped torn size = record { size = torn.size ∙ length-blank 4096 ∙ sym size; bits = λ i. mix_swap _ _ _ (torn.bits i) }
+      swapped torn size = record { size = torn.size ∙ ranges.parts.length_blank 4096 ∙ sym size; bits = λ i. mix_swap _ _ _ (torn.bits i) }

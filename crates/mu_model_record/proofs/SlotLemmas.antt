@@ -2,14 +2,15 @@
 use Rattle.std.proofs.Common.{◌≡◌, ◌⊎◌, inl, inr, ⊎_elim, ℕ, ◌*◌, ◌<◌, List, drop, sym, ◌∙◌, ap, subst, arith}
 use Rattle.std.proofs.lemmas.Bool.{cases_eq}
 use Rattle.mu_model_flash.specs.Bits.{AreOctets, blank, part_of}
-use Rattle.mu_model_flash.proofs.BitLemmas.{length-blank, get-blank}
 use Rattle.mu_model_record.specs.Code.{content_of, IsCodeWord, HasPairOfOnes, IsSafe}
 use Rattle.mu_model_record.specs.Page.{slot_in, format_of, IsLong, Word, page_word, slot_word, IsWord, IsSafePage, CanWriteSlot, SlotChanges}
 use Rattle.mu_model_record.proofs.CodeLemmas.{coded_is, content-coded, ones_no_code, drop_code, take_code, drop_ones, take_ones}
 use Rattle.mu_model_record.proofs.PageLemmas.{ff_pair}
+use Rattle.mu_model_flash.specs.Laws.{RangeLaws}
 
-pub blank_ones : HasPairOfOnes (blank 1024)
-blank_ones = ff_pair (blank 1024) (omega (arith, length-blank 1024)) (get-blank 1024 0 (omega arith)) (get-blank 1024 1 (omega arith))
+module _ (ranges : RangeLaws) where
+  pub blank_ones : HasPairOfOnes (blank 1024)
+  blank_ones = ff_pair (blank 1024) (omega (arith, ranges.parts.length_blank 1024)) (ranges.parts.get_blank 1024 0 (omega arith)) (ranges.parts.get_blank 1024 1 (omega arith))
 
 slot_code : (page : List ℕ) (k : ℕ) → IsCodeWord page → IsCodeWord (slot_in page k)
 unfolding part_of
@@ -23,11 +24,11 @@ slot_ones page k has =
     let e : 1024 * k ≡ 2 * (512 * k) = omega arith in
     drop_ones page (512 * k) (subst (λ (n : ℕ). HasPairOfOnes (drop n page)) e (take_ones 1024 (drop (1024 * k) page) has))
 
-module _ (old new : List ℕ) (k : ℕ) (octets : List ℕ) (small : AreOctets octets) (can : CanWriteSlot old k) (changes : SlotChanges old new k octets) where
+module _ (ranges : RangeLaws) (old new : List ℕ) (k : ℕ) (octets : List ℕ) (small : AreOctets octets) (can : CanWriteSlot old k) (changes : SlotChanges old new k octets) where
   -- a slot after slot 0, where slot 0 is written
   later_ones : k ≡ 0 → (j : ℕ) → 0 < j → j < 4 → HasPairOfOnes (slot_in new j)
   later_ones first j some lt =
-      subst (λ (s : List ℕ). HasPairOfOnes s) (sym (changes.others j lt (λ is. omega (arith, is, first, some)) ∙ can.if_first first j some lt)) blank_ones
+      subst (λ (s : List ℕ). HasPairOfOnes s) (sym (changes.others j lt (λ is. omega (arith, is, first, some)) ∙ can.if_first first j some lt)) (blank_ones ranges)
 
   this_safe : IsSafe (slot_in new k)
   this_safe = ⊎_elim (λ ones. inr ones) (λ is. inl (subst (λ (s : List ℕ). IsCodeWord s) (sym is) (coded_is octets small))) changes.this_one

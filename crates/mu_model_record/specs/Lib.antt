@@ -12,4 +12,6 @@ pub mod Kinds
 pub mod Next
 pub mod NextLaws
 pub mod Changes
+pub mod ChangeLaws
 pub mod Laws
+pub mod Props

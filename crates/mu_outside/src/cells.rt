@@ -5,6 +5,7 @@ ghost use Rattle.mu_model_flash.specs.Flash.{ticks, IsImage};
 ghost use Rattle.mu_model_flash.specs.Patterns.{IsLeftBy};
 
 use crate::memory::{PAGE, overwrite, tear};
+use mu_model_flash::laws::ranges_of_octets;
 use mu_model_flash::{Failed, Pattern};
 use std::alloc::{AllocError, Global};
 
@@ -71,6 +72,7 @@ impl Cells {
         ensures pages { self.new.pages ≡ self.old.pages }
         ensures faults { self.new.faults ≡ self.old.faults }
     {
+        ranges_of_octets();
         self.clock = self.clock.saturating_add(1);
         overwrite(&mut self.octets, at, bytes);
     }
@@ -84,6 +86,7 @@ impl Cells {
         ensures pages { self.new.pages ≡ self.old.pages }
         ensures faults { self.new.faults ≡ min (self.old.faults + 1) (2 ^ 64 - 1) }
     {
+        ranges_of_octets();
         self.clock = self.clock.saturating_add(1);
         tear(&mut self.octets, at, bytes, pattern);
         self.fail()

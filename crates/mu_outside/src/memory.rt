@@ -5,6 +5,7 @@ ghost use Rattle.mu_model_flash.specs.Bits.{AreOctets, blank, written, Between};
 ghost use Rattle.mu_model_flash.specs.Patterns.{made_bit, IsMade, IsLeftBy};
 
 use mu_model_flash::Pattern;
+use mu_model_flash::laws::ranges_of_octets;
 
 pub(crate) const PAGE: usize = 4096;
 
@@ -21,6 +22,7 @@ pub(crate) fn overwrite(octets: &mut Vec<u8>, at: usize, bytes: &[u8])
     ensures items { octets.new.items ≡ written octets.old.items at bytes.now }
     ensures len { length octets.new.items ≡ length octets.old.items }
 {
+    ranges_of_octets();
     octets[at..at + bytes.len()].copy_from_slice(bytes);
 }
 
@@ -47,6 +49,7 @@ fn mix(octets: &mut Vec<u8>, at: usize, bytes: &[u8], seed: u64)
     ensures between { Between octets.old.items (written octets.old.items at bytes.now) octets.new.items }
     ensures len { length octets.new.items ≡ length octets.old.items }
 {
+    ranges_of_octets();
     for (j, new) in bytes.iter().enumerate() {
         let old = octets[at + j];
         octets[at + j] = mixed(old, *new, seed, j as u64);

@@ -13,12 +13,11 @@ use Rattle.mu_model_record.specs.Record.{IsRecord, IsFilling, entry_of}
 use Rattle.mu_model_record.specs.Store.{nothing, held, StoreState, content_of_bank, mark_place, BlockLies}
 use Rattle.mu_model_record.specs.Next.{IsNext}
 use Rattle.mu_model_record.specs.Changes.{next_record, emptied, begun}
-use Rattle.mu_model_record.proofs.FrameLemmas.{block_begins}
-use Rattle.mu_model_record.proofs.ChangeLemmas.{bank_record, bank_next}
 use Rattle.mu_record.specs.Place.{HoldsAt}
 use Rattle.mu_store.specs.Marks.{no_flags}
 use Rattle.mu_store.specs.Booted.{is_held}
 use Rattle.mu_store.proofs.ReadLemmas.{get-no_flags}
+use Rattle.mu_store.specs.Known.{Known}
 
 -- no block
 abbrev pub no_block : Option (List ℕ)
@@ -30,25 +29,26 @@ none_held (suc n) zero = refl
 none_held (suc n) (suc i) = none_held n i
 
 -- a bank has at most 256 blocks
-pub few_blocks : (size log : ℕ) → size ≤ 4096 * 256 → 12 ≤ log → log ≤ 14 → block_count size log ≤ 256
-few_blocks size log most least few = ⊎_elim (λ le. le) (λ gt. absurd (never gt)) (split (block_count size log) 256)
-  where
-    split : (a b : ℕ) → (a ≤ b) ⊎ (b < a)
-    split a b = grind arith
+module _ (known : Known) where
+  pub few_blocks : (size log : ℕ) → size ≤ 4096 * 256 → 12 ≤ log → log ≤ 14 → block_count size log ≤ 256
+  few_blocks size log most least few = ⊎_elim (λ le. le) (λ gt. absurd (never gt)) (split (block_count size log) 256)
+    where
+      split : (a b : ℕ) → (a ≤ b) ⊎ (b < a)
+      split a b = grind arith
 
-    logs : (l : ℕ) → 12 ≤ l → l ≤ 14 → (l ≡ 12) ⊎ ((l ≡ 13) ⊎ (l ≡ 14))
-    logs l ge le = grind arith
+      logs : (l : ℕ) → 12 ≤ l → l ≤ 14 → (l ≡ 12) ⊎ ((l ≡ 13) ⊎ (l ≡ 14))
+      logs l ge le = grind arith
 
-    large : 4096 ≤ 2 ^ log
-    large = ⊎_elim (λ is. subst (λ (l : ℕ). 4096 ≤ 2 ^ l) (sym is) (omega arith)) (λ more. ⊎_elim (λ is. subst (λ (l : ℕ). 4096 ≤ 2 ^ l) (sym is) (omega arith)) (λ is. subst (λ (l : ℕ). 4096 ≤ 2 ^ l) (sym is) (omega arith)) more) (logs log least few)
+      large : 4096 ≤ 2 ^ log
+      large = ⊎_elim (λ is. subst (λ (l : ℕ). 4096 ≤ 2 ^ l) (sym is) (omega arith)) (λ more. ⊎_elim (λ is. subst (λ (l : ℕ). 4096 ≤ 2 ^ l) (sym is) (omega arith)) (λ is. subst (λ (l : ℕ). 4096 ≤ 2 ^ l) (sym is) (omega arith)) more) (logs log least few)
 
-    never : 256 < block_count size log → ⊥
-    never gt =
-        let begins : 256 * 2 ^ log < size = block_begins size log 256 gt in
-        let p : ℕ = 2 ^ log in
-        omega (arith, begins, large, most)
+      never : 256 < block_count size log → ⊥
+      never gt =
+          let begins : 256 * 2 ^ log < size = known.places.block_begins size log 256 gt in
+          let p : ℕ = 2 ^ log in
+          omega (arith, begins, large, most)
 
-module _ (a : Seen) (page fresh : ℕ) (d : StoreState) (holds : HoldsAt a page fresh d) (fields : Record) (is : d.present ≡ fields) (not_last : fields.count ≡ 4294967295 → ⊥) (tag : List ℕ) (tag_size : length tag ≡ 1792) (small : AreOctets tag) (bank : ℕ) (there : bank < fields.number) where
+module _ (known : Known) (a : Seen) (page fresh : ℕ) (d : StoreState) (holds : HoldsAt a page fresh d) (fields : Record) (is : d.present ≡ fields) (not_last : fields.count ≡ 4294967295 → ⊥) (tag : List ℕ) (tag_size : length tag ≡ 1792) (small : AreOctets tag) (bank : ℕ) (there : bank < fields.number) where
   sound : IsRecord d.present
   sound = holds.represents.in_range
 
@@ -59,7 +59,7 @@ module _ (a : Seen) (page fresh : ℕ) (d : StoreState) (holds : HoldsAt a page 
   there_d = subst (λ (r : Record). bank < r.number) (sym is) there
 
   pub emptied_then : IsNext a.octets d (emptied d bank tag)
-  emptied_then = bank_next page holds.word d a.octets holds.represents bank Empty nothing tag there_d (bank_record d.present tag sound not_worn tag_size small bank Empty there_d tt (λ never. absurd never)) (λ image out. tt)
+  emptied_then = known.states.banked page holds.word d a.octets holds.represents bank Empty nothing tag there_d (known.records.banked d.present tag sound not_worn (tag_size, small) bank Empty there_d tt (λ never. absurd never)) (λ image out. tt)
 
   pub emptied_is : (entries : List BankState) → entries ≡ set fields.banks bank Empty → (emptied d bank tag).present ≡ next_record fields entries tag
   emptied_is entries e = ap (λ (r : Record). next_record r (set r.banks bank Empty) tag) is ∙ ap (λ (l : List BankState). next_record fields l tag) (sym e)
@@ -69,14 +69,14 @@ module _ (a : Seen) (page fresh : ℕ) (d : StoreState) (holds : HoldsAt a page 
     most_d = subst (λ (r : Record). size ≤ 4096 * r.pages) (sym is) most
 
     pub blocks_few : block_count size log ≤ 256
-    blocks_few = few_blocks size log (omega (arith, most_d, sound.pages_most)) least few
+    blocks_few = (few_blocks known) size log (omega (arith, most_d, sound.pages_most)) least few
 
     begun_record : IsRecord (next_record d.present (set d.present.banks bank (Filling size log)) tag)
-    begun_record = bank_record d.present tag sound not_worn tag_size small bank (Filling size log) there_d (some, most_d, least, few)
+    begun_record = known.records.banked d.present tag sound not_worn (tag_size, small) bank (Filling size log) there_d (some, most_d, least, few)
         (λ f other g. absurd (subst (λ (r : Record). ¬ IsFilling (entry_of r other)) (sym is) (rests other) g))
 
     pub begun_then : ((i : ℕ) → i < 4096 → get_or a.octets (mark_place bank i) 0 ≡ 255) → IsNext a.octets d (begun d bank size log tag)
-    begun_then marks = bank_next page holds.word d a.octets holds.represents bank (Filling size log) (held (replicate (block_count size log) None)) tag there_d begun_record
+    begun_then marks = known.states.banked page holds.word d a.octets holds.represents bank (Filling size log) (held (replicate (block_count size log) None)) tag there_d begun_record
         (λ image out. (
           length-replicate (block_count size log) None,
           λ i lt.

@@ -4,6 +4,8 @@ use Rattle.std.proofs.lemmas.List.{append-nil}
 use Rattle.mu_image.specs.Digests.{HasTaken}
 use Rattle.mu_model_flash.specs.Flash.{Seen, IsSound}
 use Rattle.mu_model_flash.specs.Run.{either, Ran}
+use Rattle.mu_model_flash.specs.Laws.{RunLaws}
+use Rattle.mu_model_record.specs.Ways.{StateOf, reading_of}
 use Rattle.mu_model_record.specs.Represents.{RepresentsStore}
 use Rattle.mu_model_record.specs.Store.{bank_place}
 use Rattle.mu_store.specs.declared.base.Base.{Base}
@@ -15,6 +17,7 @@ use Rattle.mu_store.specs.Source.{Gave, GivesMore}
 use Rattle.mu_store.specs.Puts.{page_steps, pages_for, Puts, Breaks, TakesPiece, StopsAt, TakesAll, Leaves, StopsBefore}
 use Rattle.mu_store.proofs.SourceLemmas.{gave_on, gave_none}
 use Rattle.mu_store.proofs.WholeLemmas.{pages_whole, puts_none, puts_more, breaks_more}
+use Rattle.mu_store.specs.Known.{Known}
 
 -- so many whole pages lie in the bank
 pub record SoFar {F : Type 0} {g : _} (seen : F → Seen) (at k : ℕ) (before after : Option (List ℕ)) (old : Base F g) (part : Part F g) : Type 0 where
@@ -38,7 +41,7 @@ leaves seen bank k before after old mid xs ys long few short gave puts = record 
       (puts.runs d holds (room.0, room.1, room.2, room.3, omega (arith, room.4, full, here, few))).0;
 }
 
-module _ {F : Type 0} {g : _} (seen : F → Seen) (bank : ℕ) (old : Base F g) where
+module _ (known : Known) {F : Type 0} {g : _} (seen : F → Seen) (run : RunLaws StateOf reading_of seen) (bank : ℕ) (old : Base F g) where
   -- before the first page
   pub so_none : (before : Option (List ℕ)) (part : Part F g) → part.base ≡ old → part.size ≡ 0 → HasTaken part.digesting [] → IsSound (seen old.flash) → SoFar seen (bank_place old.fields bank) 0 before before old part
   so_none before part is size taken sound = record {
@@ -47,7 +50,7 @@ module _ {F : Type 0} {g : _} (seen : F → Seen) (bank : ℕ) (old : Base F g) 
     size = size;
     gave = gave_none before;
     taken = taken;
-    puts = subst (λ (b : Base F g). Puts seen (bank_place old.fields bank) [] old b) (sym is) (puts_none seen (bank_place old.fields bank) old sound);
+    puts = subst (λ (b : Base F g). Puts seen (bank_place old.fields bank) [] old b) (sym is) ((puts_none known) seen run (bank_place old.fields bank) old sound);
   }
 
   module _ (k : ℕ) (few : k < old.fields.pages) (before mid after : Option (List ℕ)) (part : Part F g) (so : SoFar seen (bank_place old.fields bank) k before mid old part) where
@@ -59,7 +62,7 @@ module _ {F : Type 0} {g : _} (seen : F → Seen) (bank : ℕ) (old : Base F g) 
       small = omega (arith, takes.most)
 
       puts : Puts seen (bank_place old.fields bank) (so.octets ++ takes.piece) old next.base
-      puts = puts_more seen (bank_place old.fields bank) k so.octets takes.piece so.long old part.base so.puts next.base sound (λ told. omega (arith, (sound.is_image told).size, inside, so.long, small))
+      puts = (puts_more known) seen run (bank_place old.fields bank) k so.octets takes.piece so.long old part.base so.puts next.base sound (λ told. omega (arith, (sound.is_image told).size, inside, so.long, small))
           (subst (λ (n : ℕ). Puts seen n takes.piece part.base next.base) here takes.puts)
 
       -- a whole page more
@@ -93,7 +96,7 @@ module _ {F : Type 0} {g : _} (seen : F → Seen) (bank : ℕ) (old : Base F g) 
           omega (arith, length-append so.octets piece, some),
           omega (arith, length-append so.octets piece, so.long, most, few),
           gave_on before mid after so.octets piece so.gave gave,
-          breaks_more seen (bank_place old.fields bank) k so.octets piece so.long old part.base so.puts (seen fail.flash) (subst (λ (n : ℕ). Breaks seen n piece part.base (seen fail.flash)) here breaks),
+          (breaks_more known) seen run (bank_place old.fields bank) k so.octets piece so.long old part.base so.puts fail.flash (subst (λ (n : ℕ). Breaks seen n piece part.base (seen fail.flash)) here breaks),
         )
     stops_next page page_is fail Read (piece, short, gave, same) = (
       so.octets ++ piece,

@@ -7,8 +7,8 @@ use Rattle.sha2.specs.Sha256.{sha256}
 use Rattle.mu_model_flash.specs.Bits.{AreOctets, part_of}
 use Rattle.mu_model_flash.specs.Flash.{Seen}
 use Rattle.mu_model_flash.specs.Run.{either, Ran, Broke}
-use Rattle.mu_model_flash.proofs.Compose.{then_ran, then_broke}
-use Rattle.mu_model_flash.proofs.RangeLemmas.{part-outside}
+use Rattle.mu_model_flash.specs.Laws.{RunsJoin}
+use Rattle.mu_model_record.specs.Ways.{as_store, StateOf, reading_of}
 use Rattle.mu_model_image.specs.declared.Meta.{Meta}
 use Rattle.mu_model_image.specs.Meta.{IsMeta, image_of}
 use Rattle.mu_model_record.specs.declared.Record.{Record}
@@ -20,9 +20,7 @@ use Rattle.mu_model_record.specs.Free.{IsFree}
 use Rattle.mu_model_record.specs.Represents.{RepresentsStore}
 use Rattle.mu_model_record.specs.Next.{IsNext, record_steps}
 use Rattle.mu_model_record.specs.Changes.{next_record, sealed_up}
-use Rattle.mu_model_record.proofs.ChangeLemmas.{bank_record, bank_next}
-use Rattle.mu_model_record.proofs.FrameLemmas.{bank_within}
-use Rattle.mu_model_record.proofs.FreeLemmas.{last_same}
+use Rattle.mu_store.proofs.RunLemmas.{last_same}
 use Rattle.mu_record.specs.declared.write.Place.{Place}
 use Rattle.mu_record.specs.Place.{HoldsAt}
 use Rattle.mu_store.specs.declared.store.Store.{Store}
@@ -35,11 +33,12 @@ use Rattle.mu_store.specs.Source.{Gave}
 use Rattle.mu_store.specs.Puts.{page_steps, pages_for, HasRoom, TakesAll, Leaves, StopsBefore}
 use Rattle.mu_store.specs.Filled.{Asked, filled_up, whole_steps, IsLeft, FailsBy}
 use Rattle.mu_store.proofs.WholeLemmas.{bank_free}
+use Rattle.mu_store.specs.Known.{Known}
 
 -- the record that says that a bank is Sealed
-module _ (r : Record) (sound : IsRecord r) (bank : ℕ) (there : bank < r.number) (meta : Meta) where
+module _ (known : Known) (r : Record) (sound : IsRecord r) (bank : ℕ) (there : bank < r.number) (meta : Meta) where
   pub whole_record : (tag : List ℕ) → r.count + 1 < 2 ^ 32 → length tag ≡ 1792 → AreOctets tag → IsMeta meta → meta.size ≤ 4096 * r.pages → IsRecord (next_record r (set r.banks bank (Sealed meta)) tag)
-  whole_record tag not_worn tag_size small range most = bank_record r tag sound not_worn tag_size small bank (Sealed meta) there (range, most) (λ never. absurd never)
+  whole_record tag not_worn tag_size small range most = known.records.banked r tag sound not_worn (tag_size, small) bank (Sealed meta) there (range, most) (λ never. absurd never)
 
   -- no bank is being filled
   pub whole_rests : ((b : ℕ) → ¬ IsFilling (entry_of r b)) → (b : ℕ) → ¬ IsFilling (slice_index_or (set r.banks bank (Sealed meta)) b Blank)
@@ -49,14 +48,14 @@ module _ (r : Record) (sound : IsRecord r) (bank : ℕ) (there : bank < r.number
       (cases_eq b bank)
 
 -- the state that it gives
-module _ (a : Seen) (page fresh : ℕ) (d : StoreState) (holds : HoldsAt a page fresh d) (fields : Record) (is : d.present ≡ fields) (bank : ℕ) (there : bank < fields.number) where
+module _ (known : Known) (a : Seen) (page fresh : ℕ) (d : StoreState) (holds : HoldsAt a page fresh d) (fields : Record) (is : d.present ≡ fields) (bank : ℕ) (there : bank < fields.number) where
   pub whole_then : (fields.count ≡ 4294967295 → ⊥) → (tag : List ℕ) → length tag ≡ 1792 → AreOctets tag → (version : ℕ) (octets : List ℕ) → IsMeta (image_of version octets).meta → length octets ≤ 4096 * fields.pages
       → part_of a.octets (bank_place fields bank) (length octets) ≡ octets → IsNext a.octets d (sealed_up d bank (image_of version octets).meta octets tag)
   whole_then not_last tag tag_size small version octets range most lies =
-      bank_next page holds.word d a.octets holds.represents bank (Sealed (image_of version octets).meta) (whole octets) tag there_d
-      (whole_record d.present holds.represents.in_range bank there_d (image_of version octets).meta tag not_worn tag_size small range most_d)
+      known.states.banked page holds.word d a.octets holds.represents bank (Sealed (image_of version octets).meta) (whole octets) tag there_d
+      ((whole_record known) d.present holds.represents.in_range bank there_d (image_of version octets).meta tag not_worn tag_size small range most_d)
       (λ image out. (
-        part-outside a.octets image 0 8192 out (bank_place d.present bank) (length octets) (inr (omega arith)) (omega (arith, bank_within d.present bank (length octets) there_d most_d, holds.represents.size)) ∙ lies_d,
+        known.ranges.writes.part_outside a.octets image 0 8192 out (bank_place d.present bank) (length octets) (inr (omega arith)) (omega (arith, known.places.bank_within d.present bank (length octets) there_d most_d, holds.represents.size)) ∙ lies_d,
         record { size = refl; digest = refl },
       ))
     where
@@ -72,7 +71,7 @@ module _ (a : Seen) (page fresh : ℕ) (d : StoreState) (holds : HoldsAt a page 
       lies_d : part_of a.octets (bank_place d.present bank) (length octets) ≡ octets
       lies_d = subst (λ (r : Record). part_of a.octets (bank_place r bank) (length octets) ≡ octets) (sym is) lies
 
-module _ {F : Type 0} {g : _} (seen : F → Seen) (old : Store F g) (asked : Asked) (there : asked.bank < old.base.fields.number) (is_empty : entry_of old.base.fields asked.bank ≡ Blank) where
+module _ (known : Known) {F : Type 0} {g : _} (seen : F → Seen) (old : Store F g) (asked : Asked) (there : asked.bank < old.base.fields.number) (is_empty : entry_of old.base.fields asked.bank ≡ Blank) where
   -- the bank is free
   pub room_of : (d : StoreState) → BaseHolds seen old.base d → (size : ℕ) → size ≤ 4096 * old.base.fields.pages → HasRoom d (bank_place old.base.fields asked.bank) size
   room_of d holds size most =
@@ -135,7 +134,7 @@ module _ {F : Type 0} {g : _} (seen : F → Seen) (old : Store F g) (asked : Ask
 
       pub whole_next : (old.base.fields.count ≡ 4294967295 → ⊥) → length asked.tag ≡ 1792 → AreOctets asked.tag → IsMeta (image_of asked.version takes.octets).meta → IsNext (seen part.base.flash).octets d (filled_up d asked takes.octets)
       whole_next not_last tag_size small range =
-          whole_then (seen part.base.flash) part.base.place.page part.base.place.fresh d mid_holds.at old.base.fields holds.fields asked.bank there not_last asked.tag tag_size small asked.version takes.octets range takes.most
+          (whole_then known) (seen part.base.flash) part.base.place.page part.base.place.fresh d mid_holds.at old.base.fields holds.fields asked.bank there not_last asked.tag tag_size small asked.version takes.octets range takes.most
           (takes.puts.put holds.at.told)
 
       -- the record that the code writes
@@ -148,15 +147,15 @@ module _ {F : Type 0} {g : _} (seen : F → Seen) (old : Store F g) (asked : Ask
       steps_are : (e : StoreState) (a b : Seen) (R : List StoreState → Seen → Seen → Type 0) → R (record_steps part.base.place.fresh d e) a b → R (record_steps old.base.place.fresh d e) a b
       steps_are e a b R given = subst (λ (p : Place). R (record_steps p.fresh d e) a b) takes.puts.place given
 
-      pub whole_ran : (c : Seen) (e : StoreState) → Ran (either RepresentsStore) d (record_steps part.base.place.fresh d e) (seen part.base.flash) c → Ran (either RepresentsStore) d (whole_steps old.base.place.fresh d (length takes.octets) e) (seen old.base.flash) c
-      whole_ran c e ran =
+      pub whole_ran : (c : Seen) → RunsJoin StateOf reading_of (seen old.base.flash) (seen part.base.flash) c → (e : StoreState) → Ran (either RepresentsStore) d (record_steps part.base.place.fresh d e) (seen part.base.flash) c → Ran (either RepresentsStore) d (whole_steps old.base.place.fresh d (length takes.octets) e) (seen old.base.flash) c
+      whole_ran c join e ran =
           let p : ℕ = pages_for (length takes.octets) in
-          then_ran (either RepresentsStore) d (page_steps (pages_for (length takes.octets)) d) (record_steps old.base.place.fresh d e) (seen old.base.flash) (seen part.base.flash) c mid.0
+          join.ran as_store d (page_steps (pages_for (length takes.octets)) d) (record_steps old.base.place.fresh d e) mid.0
           (subst (λ (s : StoreState). Ran (either RepresentsStore) s (record_steps old.base.place.fresh d e) (seen part.base.flash) c) (sym (last_same d (pages_for (length takes.octets) + pages_for (length takes.octets))))
           (steps_are e (seen part.base.flash) c (λ steps. Ran (either RepresentsStore) d steps) ran))
 
-      pub whole_broke : (c : Seen) (e : StoreState) → Broke (either RepresentsStore) d (record_steps part.base.place.fresh d e) (seen part.base.flash) c → Broke (either RepresentsStore) d (whole_steps old.base.place.fresh d (length takes.octets) e) (seen old.base.flash) c
-      whole_broke c e broke =
-          then_broke (either RepresentsStore) d (page_steps (pages_for (length takes.octets)) d) (record_steps old.base.place.fresh d e) (seen old.base.flash) (seen part.base.flash) c mid.0
+      pub whole_broke : (c : Seen) → RunsJoin StateOf reading_of (seen old.base.flash) (seen part.base.flash) c → (e : StoreState) → Broke (either RepresentsStore) d (record_steps part.base.place.fresh d e) (seen part.base.flash) c → Broke (either RepresentsStore) d (whole_steps old.base.place.fresh d (length takes.octets) e) (seen old.base.flash) c
+      whole_broke c join e broke =
+          join.broke as_store d (page_steps (pages_for (length takes.octets)) d) (record_steps old.base.place.fresh d e) mid.0
           (subst (λ (s : StoreState). Broke (either RepresentsStore) s (record_steps old.base.place.fresh d e) (seen part.base.flash) c) (sym (last_same d (pages_for (length takes.octets) + pages_for (length takes.octets))))
           (steps_are e (seen part.base.flash) c (λ steps. Broke (either RepresentsStore) d steps) broke))

@@ -3,17 +3,19 @@ use Rattle.std.proofs.Common.{◌≡◌, ℕ, true, IsTrue, List, [], sym, ◌�
 use Rattle.mu_model_flash.specs.Cause.{Rose}
 use Rattle.mu_model_flash.specs.Flash.{Seen, IsSound, Unchanged}
 use Rattle.mu_model_flash.specs.Run.{either, Ran, Broke}
-use Rattle.mu_model_flash.proofs.Compose.{nothing, unchanged_keeps}
+use Rattle.mu_model_flash.specs.Laws.{RunsAreRead}
 use Rattle.mu_model_record.specs.Store.{StoreState}
 use Rattle.mu_model_record.specs.Represents.{RepresentsAt, RepresentsStore}
+use Rattle.mu_model_record.specs.Ways.{as_store, StateOf, reading_of}
 use Rattle.mu_record.specs.Place.{HoldsAt}
+use Rattle.mu_store.proofs.RunLemmas.{unchanged_keeps}
 
 module _ (a b : Seen) (sound : IsSound a) (same : Unchanged a b) (page fresh : ℕ) (d : StoreState) (holds : HoldsAt a page fresh d) where
   here : RepresentsStore d a.octets
   here = (page, holds.word, holds.represents)
 
-  pub read_ran : Ran (either RepresentsStore) d [] a b
-  read_ran = nothing (either RepresentsStore) d a b sound same holds.on (λ told. here)
+  pub read_ran : RunsAreRead StateOf reading_of a b → Ran (either RepresentsStore) d [] a b
+  read_ran reads = reads.none as_store d sound same holds.on (λ told. here)
 
   pub read_holds : HoldsAt b page fresh d
   read_holds = record {
@@ -24,9 +26,9 @@ module _ (a b : Seen) (sound : IsSound a) (same : Unchanged a b) (page fresh : �
     is_before = holds.is_before;
   }
 
-  pub read_broke : (steps : List StoreState) → Rose a.faults b.faults → (IsTrue a.only_armed → b.off ≡ true) → Broke (either RepresentsStore) d steps a b
-  read_broke steps rose cause =
-      let ran = read_ran in
+  pub read_broke : RunsAreRead StateOf reading_of a b → (steps : List StoreState) → Rose a.faults b.faults → (IsTrue a.only_armed → b.off ≡ true) → Broke (either RepresentsStore) d steps a b
+  read_broke reads steps rose cause =
+      let ran = read_ran reads in
       record {
         keeps = unchanged_keeps a b same;
         rose = rose;

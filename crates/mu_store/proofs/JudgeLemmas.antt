@@ -1,6 +1,6 @@
 -- What a flash holds, read as a whole.
 use Rattle.std.proofs.Common.{◌≡◌, ◌⊎◌, inl, inr, ⊎_elim, ℕ, ◌*◌, ◌<◌, Bool, true, false, IsTrue, Option, Some, None, List, length, refl, sym, ◌∙◌, ap, subst, arith}
-use Rattle.std.specs.Prelude.{slice_index, slice_index_or}
+use Rattle.std.specs.Prelude.{MatchOption, slice_index, slice_index_or}
 use Rattle.mu_model_image.specs.Pieces.{block_count}
 use Rattle.mu_model_flash.specs.Flash.{Seen, Unchanged}
 use Rattle.mu_model_record.specs.declared.Record.{Record}
@@ -11,7 +11,6 @@ use Rattle.mu_model_record.specs.Record.{IsRecord, IsFilling, entry_of}
 use Rattle.mu_model_record.specs.Store.{Content, nothing, held, whole, StoreState, content_of_bank, pages_of, mark_place, BlockLies, BankHolds}
 use Rattle.mu_model_record.specs.Represents.{RepresentsAt}
 use Rattle.mu_model_record.specs.Kinds.{IsPresent, AreMarks, AreFitBelow, IsForeign, other_word, IsDamaged}
-use Rattle.mu_model_record.proofs.KindLemmas.{present_once}
 use Rattle.mu_record.specs.Found.{HasOther}
 use Rattle.mu_record.specs.Place.{HoldsAt}
 use Rattle.mu_store.specs.declared.digest.Damage.{Damage}
@@ -20,6 +19,11 @@ use Rattle.mu_store.specs.Marks.{MarkIs, AreHeld, HasOtherMark}
 use Rattle.mu_store.specs.Damage.{IsDamage}
 use Rattle.mu_store.specs.Judged.{AreMarksOf, IsWhole}
 use Rattle.mu_store.specs.Booted.{is_held}
+use Rattle.mu_store.specs.Known.{Known}
+
+pub match_none : {T : Type 0} (A : Type 0) (B : T → Type 0) (o : Option T) → MatchOption o A B → o ≡ None → A
+match_none A B None m is = m
+match_none A B (Some t) m is = absurd (cc is)
 
 -- marks
 pub no_marks : (r : Record) (image : List ℕ) → ((b : ℕ) → ¬ IsFilling (entry_of r b)) → AreMarks r image
@@ -69,9 +73,9 @@ pub is_other : (image : List ℕ) → HasOther image → IsForeign image
 is_other image has = other_word has.0 has.1 has.2 has.3
 
 -- what is held of a state
-module _ (page p : ℕ) (word : Word) (d : StoreState) (a : Seen) (r : Record) (marks : Option Marks) (at : RepresentsAt p word d a.octets) (is : IsWhole a.octets page r marks) (b : Seen) (same : Unchanged a b) (told : IsTrue a.told) (on : a.off ≡ false) where
+module _ (known : Known) (page p : ℕ) (word : Word) (d : StoreState) (a : Seen) (r : Record) (marks : Option Marks) (at : RepresentsAt p word d a.octets) (is : IsWhole a.octets page r marks) (b : Seen) (same : Unchanged a b) (told : IsTrue a.told) (on : a.off ≡ false) where
   once : (page ≡ p) × (is.word ≡ word) × (r ≡ d.present)
-  once = present_once p word d a.octets at page is.word r is.is
+  once = known.present a.octets page p is.word word r d.present is.is (known.represented p word d a.octets at)
 
   pub fields_are : d.present ≡ r
   fields_are = sym once.2

@@ -1,3 +1,7 @@
+pub mod PartLemmas
+pub mod RunLemmas
+pub mod RunOfPages
+pub mod PagePuts
 pub mod StoreLemmas
 pub mod ReadLemmas
 pub mod JudgeLemmas

@@ -7,17 +7,16 @@ use Rattle.std.proofs.lemmas.List.{length-replicate, get_or-replicate, get_or_pa
 use Rattle.std.proofs.Math.Seq.{take-add}
 use Rattle.mu_model_flash.specs.Bits.{part_of}
 use Rattle.mu_model_flash.specs.Flash.{Seen}
-use Rattle.mu_model_flash.proofs.RangeLemmas.{length-part}
 use Rattle.mu_model_record.specs.declared.Record.{Record}
 use Rattle.mu_model_record.specs.declared.BankState.{BankState}
 use Rattle.mu_model_record.specs.declared.BankState.TheVariants.{Empty, Filling, Sealed}
 use Rattle.mu_model_record.specs.Record.{IsEntryInRange, entry_of}
 use Rattle.mu_model_record.specs.Store.{Content, whole, StoreState, content_of_bank, bank_place, BankHolds}
-use Rattle.mu_model_record.proofs.FrameLemmas.{bank_within}
-use Rattle.mu_model_record.proofs.PartLemmas.{part_part}
 use Rattle.mu_record.specs.Place.{HoldsAt}
 use Rattle.mu_store.specs.Booted.{is_held}
 use Rattle.mu_store.specs.Marks.{no_flags}
+use Rattle.mu_store.proofs.PartLemmas.{length-part, part_part}
+use Rattle.mu_store.specs.Known.{Known}
 
 pub length-no_flags : length no_flags ≡ 256
 unfolding no_flags
@@ -47,7 +46,7 @@ part_page c at size page count lt is =
     ap (λ (n : ℕ). part_of c at n ++ part_of c (at + 4096 * page) count) from ∙ part_join c at (4096 * page) count ∙ ap (λ (n : ℕ). part_of c at n) to
 
 -- a part of the image that a bank holds
-module _ (a : Seen) (page fresh : ℕ) (d : StoreState) (holds : HoldsAt a page fresh d) (fields : Record) (is : d.present ≡ fields) (b : ℕ) (there : b < fields.number) (octets : List ℕ) (content : content_of_bank d b ≡ whole octets) (at n : ℕ) (within : at + n ≤ length octets) where
+module _ (known : Known) (a : Seen) (page fresh : ℕ) (d : StoreState) (holds : HoldsAt a page fresh d) (fields : Record) (is : d.present ≡ fields) (b : ℕ) (there : b < fields.number) (octets : List ℕ) (content : content_of_bank d b ≡ whole octets) (at n : ℕ) (within : at + n ≤ length octets) where
   there_d : b < d.present.number
   there_d = subst (λ (r : Record). b < r.number) (sym is) there
 
@@ -55,7 +54,7 @@ module _ (a : Seen) (page fresh : ℕ) (d : StoreState) (holds : HoldsAt a page 
   by_entry Empty range h = absurd h
   by_entry (Filling size log) range h = absurd h
   by_entry (Sealed meta) range h =
-      let inside = bank_within d.present b meta.size there_d range.1 in
+      let inside = known.places.bank_within d.present b meta.size there_d range.1 in
       let lies : bank_place d.present b + meta.size ≤ length a.octets = omega (arith, inside, holds.represents.size) in
       let size : length octets ≡ meta.size = ap (λ (l : List ℕ). length l) (sym h.0) ∙ length-part a.octets (bank_place d.present b) meta.size lies in
       sym (part_part a.octets (bank_place d.present b) meta.size at n lies (omega (arith, within, size))) ∙ ap (λ (l : List ℕ). part_of l at n) h.0

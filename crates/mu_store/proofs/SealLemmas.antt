@@ -16,11 +16,9 @@ use Rattle.mu_model_record.specs.Record.{IsRecord, IsFilling, IsEntryInRange, en
 use Rattle.mu_model_record.specs.Store.{Content, held, whole, StoreState, content_of_bank, bank_place, BankHolds}
 use Rattle.mu_model_record.specs.Next.{IsNext}
 use Rattle.mu_model_record.specs.Changes.{next_record, sealed_up, joined}
-use Rattle.mu_model_record.proofs.ChangeLemmas.{bank_record, bank_next}
-use Rattle.mu_model_record.proofs.JoinLemmas.{bank_joined}
-use Rattle.mu_model_record.proofs.FrameLemmas.{banks_same}
 use Rattle.mu_record.specs.Place.{HoldsAt}
 use Rattle.mu_store.specs.Booted.{is_held}
+use Rattle.mu_store.specs.Known.{Known}
 
 -- octets, at any default
 pub all_octets : (xs : List ℕ) → AreOctets xs → All (λ octet. octet < 256) xs
@@ -31,7 +29,7 @@ all_octets xs small k d lt = subst (λ (n : ℕ). n < 256) (get_or-any xs k 0 d 
     get_or-any (x ∷ xs) zero a b lt = refl
     get_or-any (x ∷ xs) (suc k) a b lt = get_or-any xs k a b (omega (arith, lt))
 
-module _ (a : Seen) (page fresh : ℕ) (d : StoreState) (holds : HoldsAt a page fresh d) (fields : Record) (is : d.present ≡ fields) (bank size log : ℕ) (there : bank < fields.number) (entry : entry_of fields bank ≡ Filling size log) (blocks : List (Option (List ℕ))) (content : content_of_bank d bank ≡ held blocks) (all : (i : ℕ) → i < block_count size log → is_held (slice_index_or blocks i None) ≡ true) where
+module _ (known : Known) (a : Seen) (page fresh : ℕ) (d : StoreState) (holds : HoldsAt a page fresh d) (fields : Record) (is : d.present ≡ fields) (bank size log : ℕ) (there : bank < fields.number) (entry : entry_of fields bank ≡ Filling size log) (blocks : List (Option (List ℕ))) (content : content_of_bank d bank ≡ held blocks) (all : (i : ℕ) → i < block_count size log → is_held (slice_index_or blocks i None) ≡ true) where
   there_d : bank < d.present.number
   there_d = subst (λ (r : Record). bank < r.number) (sym is) there
 
@@ -41,7 +39,7 @@ module _ (a : Seen) (page fresh : ℕ) (d : StoreState) (holds : HoldsAt a page 
   joined_in : (image : List ℕ) → ((b : ℕ) → b < d.present.number → BankHolds d.present b (entry_of d.present b) (content_of_bank d b) image) → part_of image (bank_place d.present bank) size ≡ joined blocks
   joined_in image banks =
       let h = subst (λ (k : Content). BankHolds d.present bank (Filling size log) k image) content (subst (λ (e : BankState). BankHolds d.present bank e (content_of_bank d bank) image) entry_d (banks bank there_d)) in
-      bank_joined d.present bank size log image blocks h.0 h.1 (λ i lt none. absurd (cc (sym (ap is_held none) ∙ all i lt)))
+      known.blocks.joined_lie d.present bank size log image blocks h.0 h.1 (λ i lt none. absurd (cc (sym (ap is_held none) ∙ all i lt)))
 
   -- what lies in the bank
   pub joined_now : part_of a.octets (bank_place fields bank) size ≡ joined blocks
@@ -58,14 +56,14 @@ module _ (a : Seen) (page fresh : ℕ) (d : StoreState) (holds : HoldsAt a page 
     most_d = subst (λ (r : Record). meta.size ≤ capacity_of r) (sym is) (subst (λ (n : ℕ). n ≤ capacity_of fields) (sym same) most)
 
     pub sealed_then : IsNext a.octets d (sealed_up d bank meta (joined blocks) tag)
-    sealed_then = bank_next page holds.word d a.octets holds.represents bank (Sealed meta) (whole (joined blocks)) tag there_d
-        (bank_record d.present tag sound not_worn tag_size small bank (Sealed meta) there_d (range, most_d) (λ never. absurd never))
+    sealed_then = known.states.banked page holds.word d a.octets holds.represents bank (Sealed meta) (whole (joined blocks)) tag there_d
+        (known.records.banked d.present tag sound not_worn (tag_size, small) bank (Sealed meta) there_d (range, most_d) (λ never. absurd never))
         (λ image out. (
-          subst (λ (n : ℕ). part_of image (bank_place d.present bank) n ≡ joined blocks) (sym same) (joined_in image (banks_same d.present (content_of_bank d) a.octets image sound holds.represents.size out holds.represents.banks)),
+          subst (λ (n : ℕ). part_of image (bank_place d.present bank) n ≡ joined blocks) (sym same) (joined_in image (known.places.banks_same d.present (content_of_bank d) a.octets image sound holds.represents.size out holds.represents.banks)),
           fit,
         ))
 
-module _ (r : Record) (sound : IsRecord r) (bank size log : ℕ) (there : bank < r.number) (entry : entry_of r bank ≡ Filling size log) (meta : Meta) where
+module _ (known : Known) (r : Record) (sound : IsRecord r) (bank size log : ℕ) (there : bank < r.number) (entry : entry_of r bank ≡ Filling size log) (meta : Meta) where
   four : bank < length r.banks
   four = omega (arith, there, sound.number_most, sound.four)
 
@@ -83,4 +81,4 @@ module _ (r : Record) (sound : IsRecord r) (bank size log : ℕ) (there : bank <
   some = (subst (λ (e : BankState). IsEntryInRange r e) entry (sound.entries bank there)).0
 
   pub sealed_record : (tag : List ℕ) → r.count + 1 < 2 ^ 32 → length tag ≡ 1792 → AreOctets tag → IsMeta meta → meta.size ≡ size → IsRecord (next_record r (set r.banks bank (Sealed meta)) tag)
-  sealed_record tag not_worn tag_size small range same = bank_record r tag sound not_worn tag_size small bank (Sealed meta) there (range, subst (λ (n : ℕ). n ≤ capacity_of r) (sym same) most) (λ never. absurd never)
+  sealed_record tag not_worn tag_size small range same = known.records.banked r tag sound not_worn (tag_size, small) bank (Sealed meta) there (range, subst (λ (n : ℕ). n ≤ capacity_of r) (sym same) most) (λ never. absurd never)

@@ -5,7 +5,6 @@ use Rattle.std.proofs.Math.ListN.{set}
 use Rattle.sha2.specs.Sha256.{sha256}
 use Rattle.mu_model_flash.specs.Bits.{AreOctets, part_of}
 use Rattle.mu_model_flash.specs.Flash.{Seen, IsSound, Unchanged}
-use Rattle.mu_model_flash.proofs.RangeLemmas.{length-part}
 use Rattle.mu_model_image.specs.declared.Meta.{Meta}
 use Rattle.mu_model_image.specs.Meta.{IsMeta, IsFit, is_fit}
 use Rattle.mu_model_image.specs.Laws.{FitIsTested}
@@ -16,7 +15,6 @@ use Rattle.mu_model_record.specs.Record.{entry_of, capacity_of}
 use Rattle.mu_model_record.specs.Store.{Content, held, StoreState, content_of_bank, bank_place, pages_of}
 use Rattle.mu_model_record.specs.Next.{IsNext, record_steps}
 use Rattle.mu_model_record.specs.Changes.{next_record, joined, blocks_in, sealed_up, emptied, sealed_or_not}
-use Rattle.mu_model_record.proofs.FrameLemmas.{bank_within}
 use Rattle.mu_record.specs.declared.write.Place.{Place}
 use Rattle.mu_record.specs.Place.{HoldsAt}
 use Rattle.mu_store.specs.declared.filling.Filling.{Filling}
@@ -25,6 +23,8 @@ use Rattle.mu_store.specs.FillingView.{IsSameFilling}
 use Rattle.mu_store.specs.Sealed.{HasDigest}
 use Rattle.mu_store.proofs.HashLemmas.{read_holds}
 use Rattle.mu_store.proofs.SealLemmas.{joined_now, sealed_then}
+use Rattle.mu_store.proofs.PartLemmas.{length-part}
+use Rattle.mu_store.specs.Known.{Known}
 
 -- the state stays
 pub hashed_holds : {F : Type 0} {g : _} (seen : F → Seen) (old new : Filling F g) → IsSound (seen old.base.flash) → Unchanged (seen old.base.flash) (seen new.base.flash) → IsSameFilling old new
@@ -49,13 +49,13 @@ not_true : (b : Bool) → (b ≡ true → ⊥) → b ≡ false
 not_true true never = absurd (never refl)
 not_true false never = refl
 
-module _ (a : Seen) (page fresh : ℕ) (d : StoreState) (holds : HoldsAt a page fresh d) (fields : Record) (is : d.present ≡ fields) (bank size log : ℕ) (there : bank < fields.number) (entry : entry_of fields bank ≡ Fills size log) (blocks : List (Option (List ℕ))) (content : content_of_bank d bank ≡ held blocks) (all : (i : ℕ) → i < block_count size log → is_held (slice_index_or blocks i None) ≡ true) (most : size ≤ capacity_of fields) (meta : Meta) where
+module _ (known : Known) (a : Seen) (page fresh : ℕ) (d : StoreState) (holds : HoldsAt a page fresh d) (fields : Record) (is : d.present ≡ fields) (bank size log : ℕ) (there : bank < fields.number) (entry : entry_of fields bank ≡ Fills size log) (blocks : List (Option (List ℕ))) (content : content_of_bank d bank ≡ held blocks) (all : (i : ℕ) → i < block_count size log → is_held (slice_index_or blocks i None) ≡ true) (most : size ≤ capacity_of fields) (meta : Meta) where
   lies : part_of a.octets (bank_place fields bank) size ≡ joined blocks
-  lies = joined_now a page fresh d holds fields is bank size log there entry blocks content all
+  lies = (joined_now known) a page fresh d holds fields is bank size log there entry blocks content all
 
   long : length (joined blocks) ≡ size
   long =
-      let within = bank_within fields bank size there most in
+      let within = known.places.bank_within fields bank size there most in
       let pages : length a.octets ≡ 4096 * pages_of fields = subst (λ (r : Record). length a.octets ≡ 4096 * pages_of r) is holds.represents.size in
       ap (λ (l : List ℕ). length l) (sym lies) ∙ length-part a.octets (bank_place fields bank) size (omega (arith, within, pages))
 
@@ -73,7 +73,7 @@ module _ (a : Seen) (page fresh : ℕ) (d : StoreState) (holds : HoldsAt a page 
   pub next_then : (b : Seen) → Unchanged a b → (fields.count ≡ 4294967295 → ⊥) → (tag : List ℕ) → length tag ≡ 1792 → AreOctets tag → IsMeta meta → HasDigest fields bank size meta a.octets → IsNext b.octets d (sealed_up d bank meta (joined blocks) tag)
   next_then b same not_last tag tag_size small range has =
       subst (λ (o : List ℕ). IsNext o d (sealed_up d bank meta (joined blocks) tag)) (sym (same.octets holds.told))
-      (sealed_then a page fresh d holds fields is bank size log there entry blocks content all not_last tag tag_size small meta range (fits has) (sym has.0) most)
+      ((sealed_then known) a page fresh d holds fields is bank size log there entry blocks content all not_last tag tag_size small meta range (fits has) (sym has.0) most)
 
   pub present_then : (now : Record) → now ≡ fields → (n : ℕ) → n ≡ bank → (tag : List ℕ) → (sealed_up d bank meta (joined blocks) tag).present ≡ next_record now (set now.banks n (Sealed meta)) tag
   present_then now now_is n n_is tag = ap (λ (r : Record). next_record r (set r.banks bank (Sealed meta)) tag) (is ∙ sym now_is) ∙ ap (λ (m : ℕ). next_record now (set now.banks m (Sealed meta)) tag) (sym n_is)

@@ -11,8 +11,8 @@ use Rattle.mu_model_record.specs.Record.{IsRecord, IsFilling, entry_of}
 use Rattle.mu_model_record.specs.Store.{StoreState}
 use Rattle.mu_model_record.specs.Next.{IsNext, is_short, record_steps}
 use Rattle.mu_model_record.specs.Changes.{next_record, tagged, released, cleared}
-use Rattle.mu_model_record.proofs.ChangeLemmas.{tagged_record, tagged_next, released_record, released_next, cleared_at}
 use Rattle.mu_record.specs.Place.{HoldsAt}
+use Rattle.mu_store.specs.Known.{Known}
 
 pub last_steps : (fresh : ℕ) (d e : StoreState) → last_of d (record_steps fresh d e) ≡ e
 last_steps fresh d e = by_test (is_short e.present && nat_lt 0 fresh)
@@ -21,7 +21,7 @@ last_steps fresh d e = by_test (is_short e.present && nat_lt 0 fresh)
     by_test true = refl
     by_test false = refl
 
-module _ (a : Seen) (page fresh : ℕ) (d : StoreState) (holds : HoldsAt a page fresh d) (fields : Record) (is : d.present ≡ fields) (not_last : fields.count ≡ 4294967295 → ⊥) (tag : List ℕ) (size : length tag ≡ 1792) (small : AreOctets tag) where
+module _ (known : Known) (a : Seen) (page fresh : ℕ) (d : StoreState) (holds : HoldsAt a page fresh d) (fields : Record) (is : d.present ≡ fields) (not_last : fields.count ≡ 4294967295 → ⊥) (tag : List ℕ) (size : length tag ≡ 1792) (small : AreOctets tag) where
   sound : IsRecord d.present
   sound = holds.represents.in_range
 
@@ -29,23 +29,24 @@ module _ (a : Seen) (page fresh : ℕ) (d : StoreState) (holds : HoldsAt a page 
   not_worn = omega (arith, ap (λ (r : Record). r.count) is, not_last, sound.count_most)
 
   pub tagged_then : IsNext a.octets d (tagged d tag)
-  tagged_then = tagged_next page holds.word d a.octets holds.represents tag (tagged_record d.present tag sound not_worn size small)
+  tagged_then = known.states.tagged page holds.word d a.octets holds.represents tag (known.records.tagged d.present tag sound not_worn (size, small))
 
   pub tagged_is : (tagged d tag).present ≡ next_record fields fields.banks tag
   tagged_is = ap (λ (r : Record). next_record r r.banks tag) is
 
   pub released_then : (named : List Bool) → IsNext a.octets d (released d named tag)
-  released_then named = released_next page holds.word d a.octets holds.represents named tag (released_record d.present tag sound not_worn size small named)
+  released_then named = known.states.released page holds.word d a.octets holds.represents named tag (known.records.released d.present tag sound not_worn (size, small) named)
 
   pub released_is : (named : List Bool) → (released d named tag).present ≡ next_record fields (cleared Empty named fields.banks) tag
   released_is named = ap (λ (r : Record). next_record r (cleared Empty named r.banks) tag) is
 
 -- no bank that is released is being filled
-pub released_rests : (r : Record) (named : List Bool) → ((b : ℕ) → ¬ IsFilling (entry_of r b)) → (b : ℕ) → ¬ IsFilling (slice_index_or (cleared Empty named r.banks) b Empty)
-released_rests r named rests b filling = ⊎_elim
-    (λ same. rests b (subst (λ (e : BankState). IsFilling e) same filling))
-    (λ gone. subst (λ (e : BankState). IsFilling e) gone filling)
-    (cleared_at Empty named r.banks b)
+module _ (known : Known) where
+  pub released_rests : (r : Record) (named : List Bool) → ((b : ℕ) → ¬ IsFilling (entry_of r b)) → (b : ℕ) → ¬ IsFilling (slice_index_or (cleared Empty named r.banks) b Empty)
+  released_rests r named rests b filling = ⊎_elim
+      (λ same. rests b (subst (λ (e : BankState). IsFilling e) same filling))
+      (λ gone. subst (λ (e : BankState). IsFilling e) gone filling)
+      (known.records.cleared_at named r.banks b)
 
 four_of : {X : Type 0} (xs : List X) (x : X) → length xs ≡ 4 → xs ≡ get_or xs 0 x ∷ get_or xs 1 x ∷ get_or xs 2 x ∷ get_or xs 3 x ∷ []
 four_of [] x size = absurd (omega (arith, size))

@@ -3,8 +3,7 @@ use Rattle.std.proofs.Common.{◌≡◌, ◌⊎◌, inl, inr, ⊎_elim, ℕ, ◌
 use Rattle.mu_model_flash.specs.Bits.{part_of}
 use Rattle.mu_model_flash.specs.Flash.{Seen, IsSound}
 use Rattle.mu_model_flash.specs.Run.{either, Ran, Broke}
-use Rattle.mu_model_flash.proofs.Compose.{at_start, keeps_on, told_on, unchanged_keeps, unchanged_same}
-use Rattle.mu_model_flash.proofs.RangeLemmas.{outside_same, outside_on, part-outside}
+use Rattle.mu_model_flash.specs.Laws.{RunLaws}
 use Rattle.mu_model_image.specs.declared.Meta.{Meta}
 use Rattle.mu_model_record.specs.declared.BankState.{BankState}
 use Rattle.mu_model_record.specs.declared.BankState.TheVariants.{Empty, Filling, Sealed}
@@ -12,12 +11,14 @@ use Rattle.mu_model_record.specs.Record.{IsRecord, IsFilling, IsEntryInRange, en
 use Rattle.mu_model_record.specs.Store.{StoreState, content_of_bank, bank_place}
 use Rattle.mu_model_record.specs.Free.{IsFreeOf, IsFree}
 use Rattle.mu_model_record.specs.Represents.{RepresentsStore}
-use Rattle.mu_model_record.proofs.PartLemmas.{part_joined}
-use Rattle.mu_model_record.proofs.RunOfPages.{wider}
+use Rattle.mu_model_record.specs.Ways.{as_store, StateOf, reading_of}
+use Rattle.mu_store.proofs.PartLemmas.{part_joined, wider}
+use Rattle.mu_store.proofs.RunLemmas.{told_on, unchanged_keeps, unchanged_same}
 use Rattle.mu_store.specs.declared.base.Base.{Base}
 use Rattle.mu_store.specs.Base.{BaseHolds}
 use Rattle.mu_store.specs.Puts.{pages_for, HasRoom, Puts, Breaks}
 use Rattle.mu_store.proofs.BlockPut.{two_ran, two_broke}
+use Rattle.mu_store.specs.Known.{Known}
 
 -- a bank that is Empty, where none is being filled, has nothing of what the banks hold
 pub bank_free : (d : StoreState) (bank : ℕ) → IsRecord d.present → entry_of d.present bank ≡ Empty → ((b : ℕ) → ¬ IsFilling (entry_of d.present b)) → IsFree d (bank_place d.present bank) (4096 * d.present.pages)
@@ -58,7 +59,7 @@ pages_more n m k is = omega (arith, is)
 pub pages_whole : (n k : ℕ) → n ≡ 4096 * k → pages_for n ≡ k
 pages_whole n k is = omega (arith, is)
 
-module _ {F : Type 0} {g : _} (seen : F → Seen) where
+module _ (known : Known) {F : Type 0} {g : _} (seen : F → Seen) (run : RunLaws StateOf reading_of seen) where
   here : (base : Base F g) (d : StoreState) → BaseHolds seen base d → RepresentsStore d (seen base.flash).octets
   here base d holds = (base.place.page, holds.at.word, holds.at.represents)
 
@@ -69,9 +70,9 @@ module _ {F : Type 0} {g : _} (seen : F → Seen) where
     fields = refl;
     place = refl;
     keeps = unchanged_keeps (seen base.flash) (seen base.flash) (unchanged_same (seen base.flash));
-    stays = λ told. outside_same at 0 (seen base.flash).octets;
+    stays = λ told. known.ranges.writes.outside_same at 0 (seen base.flash).octets;
     put = λ told. refl;
-    runs = λ d holds room. (at_start (either RepresentsStore) d (seen base.flash) sound holds.at.on (λ told. here base d holds), holds);
+    runs = λ d holds room. ((run.read base.flash base.flash).none as_store d sound (unchanged_same (seen base.flash)) holds.at.on (λ told. here base d holds), holds);
   }
 
   -- a piece more
@@ -92,21 +93,21 @@ module _ {F : Type 0} {g : _} (seen : F → Seen) where
     puts_more new sound within second = record {
       fields = second.fields ∙ first.fields;
       place = second.place ∙ first.place;
-      keeps = keeps_on a b c first.keeps second.keeps;
+      keeps = (run.join old.flash mid.flash new.flash).keeps first.keeps second.keeps;
       stays = λ told.
           let now = told_on a b first.keeps told in
-          outside_on at size a.octets b.octets c.octets
+          known.ranges.writes.outside_on at size a.octets b.octets c.octets
           (wider at size at (4096 * pages_for (length xs)) a.octets b.octets (omega arith) (omega (arith, more, pages_whole (length xs) k long)) (first.stays told))
           (wider at size (at + length xs) (4096 * pages_for (length ys)) b.octets c.octets (omega arith) (omega (arith, more, long)) (second.stays now));
       put = λ told.
           let now = told_on a b first.keeps told in
-          let low : part_of c.octets at (length xs) ≡ xs = part-outside b.octets c.octets (at + length xs) (4096 * pages_for (length ys)) (second.stays now) at (length xs) (inl (omega arith)) (omega (arith, within now)) ∙ first.put told in
+          let low : part_of c.octets at (length xs) ≡ xs = known.ranges.writes.part_outside b.octets c.octets (at + length xs) (4096 * pages_for (length ys)) (second.stays now) at (length xs) (inl (omega arith)) (omega (arith, within now)) ∙ first.put told in
           ap (λ (n : ℕ). part_of c.octets at n) (length-append xs ys) ∙ sym (part_joined c.octets at (length xs) (length ys)) ∙ (λ i. low i ++ second.put now i);
       runs = λ d holds room.
           let one = first.runs d holds (room_first d room) in
           let two = second.runs d one.1 (room_then d room) in (
             subst (λ (n : ℕ). Ran (either RepresentsStore) d (replicate n d) a c) (steps (pages_for (length ys)) refl)
-                (two_ran d (pages_for (length xs) + pages_for (length xs)) (pages_for (length ys) + pages_for (length ys)) a b c one.0 two.0),
+                (two_ran d (pages_for (length xs) + pages_for (length xs)) (pages_for (length ys) + pages_for (length ys)) a b c (run.join old.flash mid.flash new.flash) one.0 two.0),
             two.1,
           );
     }
@@ -123,9 +124,9 @@ module _ {F : Type 0} {g : _} (seen : F → Seen) where
         size : ℕ
         size = 4096 * pages_for (length (xs ++ ys))
 
-    pub breaks_more : (new : Seen) → Breaks seen (at + length xs) ys mid new → Breaks seen at (xs ++ ys) old new
+    pub breaks_more : (new : F) → Breaks seen (at + length xs) ys mid (seen new) → Breaks seen at (xs ++ ys) old (seen new)
     breaks_more new broke d holds room =
         let one = first.runs d holds (room_first d room) in
         let two = broke d one.1 (room_then d room) in
-        subst (λ (n : ℕ). Broke (either RepresentsStore) d (replicate n d) (seen old.flash) new) (steps (pages_for (length ys)) refl)
-        (two_broke d (pages_for (length xs) + pages_for (length xs)) (pages_for (length ys) + pages_for (length ys)) (seen old.flash) (seen mid.flash) new one.0 two)
+        subst (λ (n : ℕ). Broke (either RepresentsStore) d (replicate n d) (seen old.flash) (seen new)) (steps (pages_for (length ys)) refl)
+        (two_broke d (pages_for (length xs) + pages_for (length xs)) (pages_for (length ys) + pages_for (length ys)) (seen old.flash) (seen mid.flash) (seen new) (run.join old.flash mid.flash new) one.0 two)

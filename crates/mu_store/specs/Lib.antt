@@ -9,3 +9,4 @@ pub mod Sealed
 pub mod Source
 pub mod Puts
 pub mod Filled
+pub mod Known

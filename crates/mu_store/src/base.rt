@@ -2,12 +2,14 @@
 ghost use Rattle.std.specs.Prelude.{◌≡◌, ◌+◌, ◌-◌, ◌*◌, ◌<◌, ◌≤◌, ◌^◌, IfOk, IfErr, IsTrue, OnOk, MatchResult, length, slice_index};
 ghost use Rattle.mu_model_record.specs.Record.{IsRecord};
 ghost use Rattle.mu_model_record.specs.Store.{pages_of};
-ghost use Rattle.mu_model_record.proofs.PropLemmas.{record_prop};
+ghost use Rattle.mu_model_record.specs.Props.{record_prop};
 ghost use Rattle.mu_record.specs.Place.{IsPlace};
 
 use crate::faults::{Stopped, StoreFault};
+use crate::laws::known;
 use crate::pages::{PAGE, erase_pages, program_pages};
-use mu_cells::{erase_page, write_mark};
+use mu_cells::{Ways, erase_page, write_mark};
+use mu_model_flash::laws::runs;
 use mu_outside::Flash;
 use mu_record::{Place, Record, write_record};
 
@@ -69,6 +71,8 @@ impl<F: Flash> Base<F> {
         ensures runs { ErasesMarks F.seen self result }
         ensures cause { Faults (F.seen self.flash) F.seen result }
     {
+        known();
+        runs::<Ways<F>>();
         let Base {
             mut flash,
             place,
@@ -101,6 +105,8 @@ impl<F: Flash> Base<F> {
         ensures runs { PutsPages F.seen self (4096 * first) (piece_count (length octets.now) 4096) result }
         ensures cause { Faults (F.seen self.flash) F.seen result }
     {
+        known();
+        runs::<Ways<F>>();
         let Base {
             mut flash,
             place,
@@ -141,6 +147,7 @@ impl<F: Flash> Base<F> {
         ensures runs { SetsMark F.seen self at result }
         ensures cause { Faults (F.seen self.flash) F.seen result }
     {
+        known();
         let Base {
             mut flash,
             place,

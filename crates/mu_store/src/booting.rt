@@ -11,6 +11,7 @@ ghost use Rattle.mu_store.specs.Booted.{booted_flash, booted_record, booted_fres
 use crate::base::Base;
 use crate::filling::Filling;
 use crate::judge::{Judged, Marks, judge};
+use crate::laws::known;
 use crate::store::Store;
 use mu_outside::Flash;
 use mu_record::{Place, Record};
@@ -80,6 +81,7 @@ pub fn boot<F: Flash>(flash: F) -> Result<Booted<F>, BootFail<F>>
     ensures same { MatchResult result (λ booted. Unchanged (F.seen flash) (F.seen (booted_flash booted))) (λ fail. Unchanged (F.seen flash) (F.seen fail.flash)) }
     ensures cause { BootFaults (F.seen flash) F.seen result }
 {
+    known();
     let mut flash = flash;
     match judge(&mut flash) {
         Err(_) => Err(BootFail {

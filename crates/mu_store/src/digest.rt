@@ -9,7 +9,9 @@ ghost use Rattle.mu_record.specs.Reads.{ReadsOnly};
 ghost use Rattle.mu_image.specs.Digests.{HasTaken};
 ghost use Rattle.mu_store.specs.Damage.{IsDamage};
 
+use mu_cells::Ways;
 use mu_image::Digesting;
+use mu_model_flash::laws::runs;
 use mu_outside::{Failed, Flash};
 use mu_record::{BankState, Record};
 
@@ -47,6 +49,7 @@ pub(crate) fn digest_of<F: Flash>(flash: &mut F, at: u32, size: u32) -> Result<[
     ensures digest { IsTrue (F.seen flash.old).told → IfOk result (λ digest. digest ≡ sha256 (part_of (F.seen flash.old).octets at size)) }
     ensures reads { ReadsOnly (F.seen flash.old) (F.seen flash.new) result }
 {
+    runs::<Ways<F>>();
     let mut digesting = Digesting::new();
     let mut piece = [0; PAGE as usize];
     for page in 0..size.div_ceil(PAGE) {

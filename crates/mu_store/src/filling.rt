@@ -4,16 +4,19 @@ ghost use Rattle.mu_model_image.specs.Pieces.{block_count};
 ghost use Rattle.mu_model_record.specs.declared.BankState.TheVariants.{Filling};
 ghost use Rattle.mu_model_record.specs.Record.{IsRecord, entry_of};
 ghost use Rattle.mu_model_record.specs.Store.{mark_place, block_place};
-ghost use Rattle.mu_model_record.proofs.PropLemmas.{bank_set};
+ghost use Rattle.mu_model_record.specs.Props.{bank_set};
 
 use crate::base::Base;
 use crate::digest::bank_place;
 use crate::entries::with_entry;
 use crate::faults::{Stopped, StoreFault};
+use crate::laws::known;
 use crate::marks::count_flags;
 use crate::pages::PAGE;
 use crate::store::Store;
 use mu_arith::block_count;
+use mu_cells::Ways;
+use mu_model_flash::laws::runs;
 use mu_outside::Flash;
 use mu_record::{BankState, Record, Tag};
 
@@ -68,6 +71,7 @@ impl<F: Flash> Filling<F> {
             (λ filling. F.seen (filling_flash filling)) (stopped_seen F.seen) (FillingHolds F.seen) ByFlash result }
         ensures cause { FillingFaults (F.seen (filling_flash self)) F.seen result }
     {
+        known();
         let Filling {
             base,
             bank,
@@ -114,6 +118,8 @@ impl<F: Flash> Filling<F> {
             (λ filling. F.seen (filling_flash filling)) (stopped_seen F.seen) (FillingHolds F.seen) ByFlash result }
         ensures cause { FillingFaults (F.seen (filling_flash self)) F.seen result }
     {
+        known();
+        runs::<Ways<F>>();
         let Filling {
             base,
             bank,
@@ -152,6 +158,7 @@ impl<F: Flash> Filling<F> {
             (λ store. F.seen (store_flash store)) (stopped_seen F.seen) (StoreHolds F.seen) ByFlash result }
         ensures cause { StoreFaults (F.seen (filling_flash self)) F.seen result }
     {
+        known();
         let Filling {
             base,
             bank,
@@ -248,6 +255,7 @@ impl<F: Flash> Filling<F> {
         ensures flags { result ≡ count_by (λ held. held) (take (block_count (filling_size self.now) (filling_log self.now)) (filling_flags self.now)) }
         ensures state { (d : StoreState) → FillingHolds F.seen self.now d → result ≡ count_by is_some (blocks_in (content_of_bank d (filling_bank self.now))) }
     {
+        known();
         count_flags(&self.held, block_count(self.size, self.log))
     }
 

@@ -2,15 +2,22 @@
 #![tactic(auto)]
 
 mod base;
+#[cfg(test)]
+mod boot_tests;
 mod booting;
 #[cfg(test)]
 mod cut_tests;
 mod digest;
 mod entries;
 mod faults;
+#[cfg(test)]
+mod fill_tests;
 mod filling;
 mod formatting;
 mod judge;
+mod laws;
+#[cfg(test)]
+mod made;
 mod marks;
 mod pages;
 mod plugging;
@@ -19,6 +26,8 @@ mod sealing;
 mod source;
 mod store;
 mod whole;
+#[cfg(test)]
+mod worn_tests;
 
 pub use booting::{BootFail, BootWhy, Booted, boot};
 pub use faults::{Stopped, StoreFault};

@@ -6,6 +6,9 @@ ghost use Rattle.mu_model_flash.specs.Run.{either, Keeps, Runs};
 ghost use Rattle.mu_model_image.specs.Pieces.{piece_count};
 ghost use Rattle.mu_model_record.specs.Turns.{StaysOutside};
 
+use crate::laws::known;
+use mu_cells::Ways;
+use mu_model_flash::laws::runs;
 use mu_outside::{Failed, Flash};
 
 pub(crate) const PAGE: u32 = 4096;
@@ -20,6 +23,8 @@ pub(crate) fn erase_pages<F: Flash>(flash: &mut F, first: u32, pages: u32) -> Re
     ensures keeps { Keeps (F.seen flash.old) (F.seen flash.new) }
     ensures cause { HasCause (F.seen flash.old).faults (F.seen flash.new).faults result }
 {
+    known();
+    runs::<Ways<F>>();
     for page in 0..pages {
         flash.erase(first + page)?;
     }
@@ -43,6 +48,8 @@ pub(crate) fn program_pages<F: Flash>(
     ensures keeps { Keeps (F.seen flash.old) (F.seen flash.new) }
     ensures cause { HasCause (F.seen flash.old).faults (F.seen flash.new).faults result }
 {
+    known();
+    runs::<Ways<F>>();
     let count = octets.len() as u32;
     for page in 0..count.div_ceil(PAGE) {
         let from = PAGE * page;

@@ -10,6 +10,7 @@ ghost use Rattle.mu_store.specs.FillingView.{filling_flash, filling_record, fill
 use crate::base::Base;
 use crate::digest::bank_place;
 use crate::filling::Filling;
+use crate::laws::known;
 use crate::store::Store;
 use mu_outside::{Failed, Flash};
 
@@ -44,6 +45,7 @@ impl<F: Flash> Store<F> {
         ensures holds { (d : StoreState) → StoreHolds F.seen self.old d → StoreHolds F.seen self.new d }
         ensures reads { ReadsOnly (F.seen (store_flash self.old)) (F.seen (store_flash self.new)) result }
     {
+        known();
         self.base.read_bank(b, at, out)?;
         Ok(())
     }
@@ -63,6 +65,7 @@ impl<F: Flash> Filling<F> {
         ensures holds { (d : StoreState) → FillingHolds F.seen self.old d → FillingHolds F.seen self.new d }
         ensures reads { ReadsOnly (F.seen (filling_flash self.old)) (F.seen (filling_flash self.new)) result }
     {
+        known();
         self.base.read_bank(b, at, out)?;
         Ok(())
     }

@@ -19,8 +19,11 @@ use crate::digest::{bank_place, digest_of};
 use crate::entries::with_entry;
 use crate::faults::{Stopped, StoreFault};
 use crate::filling::Filling;
+use crate::laws::known;
 use crate::store::Store;
+use mu_cells::Ways;
 use mu_image::Meta;
+use mu_model_flash::laws::runs;
 use mu_model_image::laws;
 use mu_outside::Flash;
 use mu_record::{BankState, Record, Tag};
@@ -126,6 +129,7 @@ impl<F: Flash> Filling<F> {
             (λ stopped. Broke (either RepresentsStore) d (record_steps (filling_fresh self) d e) (F.seen (filling_flash self)) (F.seen stopped.flash)) }
         ensures cause { StoreFaults (F.seen (filling_flash self)) F.seen result }
     {
+        known();
         let Filling {
             base,
             bank,
@@ -162,6 +166,8 @@ impl<F: Flash> Filling<F> {
             (sealing_seen F.seen) (stopped_seen F.seen) (SealingHolds F.seen) ByFlash result }
         ensures cause { SealingFaults (F.seen (filling_flash self)) F.seen result }
     {
+        known();
+        runs::<Ways<F>>();
         if self.base.fields.count == u32::MAX {
             return Err(Stopped {
                 why: StoreFault::Worn,

@@ -6,7 +6,10 @@ use crate::base::Base;
 use crate::entries::{cleared, with_entry};
 use crate::faults::{Stopped, StoreFault};
 use crate::filling::Filling;
+use crate::laws::known;
 use crate::marks::no_flags;
+use mu_cells::Ways;
+use mu_model_flash::laws::runs;
 use mu_outside::Flash;
 use mu_record::{BankState, Record, Tag};
 
@@ -40,6 +43,7 @@ impl<F: Flash> Store<F> {
             (λ store. F.seen (store_flash store)) (stopped_seen F.seen) (StoreHolds F.seen) ByFlash result }
         ensures cause { StoreFaults (F.seen (store_flash self)) F.seen result }
     {
+        known();
         let Store { base } = self;
         if base.fields.count == u32::MAX {
             return Err(Stopped {
@@ -71,6 +75,7 @@ impl<F: Flash> Store<F> {
             (λ store. F.seen (store_flash store)) (stopped_seen F.seen) (StoreHolds F.seen) ByFlash result }
         ensures cause { StoreFaults (F.seen (store_flash self)) F.seen result }
     {
+        known();
         let Store { base } = self;
         if base.fields.count == u32::MAX {
             return Err(Stopped {
@@ -109,6 +114,8 @@ impl<F: Flash> Store<F> {
             (λ filling. F.seen (filling_flash filling)) (stopped_seen F.seen) (FillingHolds F.seen) ByFlash result }
         ensures cause { FillingFaults (F.seen (store_flash self)) F.seen result }
     {
+        known();
+        runs::<Ways<F>>();
         let Store { base } = self;
         if base.fields.count == u32::MAX {
             return Err(Stopped {

@@ -11,11 +11,14 @@ ghost use Rattle.mu_store.specs.Filled.{IsFilled, FailsBy, FilledFaults, SourceF
 use crate::base::Base;
 use crate::digest::bank_place;
 use crate::entries::with_entry;
+use crate::laws::known;
 use crate::pages::PAGE;
 use crate::sealing::is_meta;
 use crate::source::{has_more, read_piece};
 use crate::store::Store;
+use mu_cells::Ways;
 use mu_image::{Digesting, Meta};
+use mu_model_flash::laws::runs;
 use mu_outside::{Flash, Source};
 use mu_record::{BankState, Record, Tag};
 
@@ -63,6 +66,8 @@ impl<F: Flash> Part<F> {
         ensures cause { MatchResult result (λ part. (F.seen self.base.flash).faults ≤ (F.seen part.base.flash).faults) (FailOf (F.seen self.base.flash) F.seen) }
         ensures source { SourceFaults (S.faults source.old) (S.faults source.new) result }
     {
+        known();
+        runs::<Ways<F>>();
         let Part {
             base,
             size,
@@ -104,6 +109,8 @@ fn put_all<F: Flash, S: Source>(
     ensures cause { MatchResult result (λ part. (F.seen base.flash).faults ≤ (F.seen part.base.flash).faults) (FailOf (F.seen base.flash) F.seen) }
     ensures source { SourceFaults (S.faults source.old) (S.faults source.new) result }
 {
+    known();
+    runs::<Ways<F>>();
     let first = bank_place(&base.fields, bank) / PAGE;
     let pages = base.fields.pages as u32;
     let mut part = Part {
@@ -148,6 +155,8 @@ impl<F: Flash> Store<F> {
         ensures cause { FilledFaults (F.seen (store_flash self)) F.seen result }
         ensures source { SourceFaults (S.faults source.old) (S.faults source.new) result }
     {
+        known();
+        runs::<Ways<F>>();
         let Store { base } = self;
         if base.fields.count == u32::MAX {
             return Err(fail(FillWhy::Worn, base.flash));

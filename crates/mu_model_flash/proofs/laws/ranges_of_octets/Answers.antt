@@ -1,5 +1,6 @@
 use Rattle.mu_model_flash.proofs.BitLemmas.{length-blank, get-blank, written-inside, written-written, octets-written, octets-between}
 use Rattle.mu_model_flash.proofs.RangeLemmas.{length-part, get-part, range-part, part-written, outside-written, part-outside, outside_same, outside_on, same-whole, torn-outside, torn-part, outside-between, part-between, mark_torn, one_blank, reads_one}
+use Rattle.mu_model_flash.proofs.MadeLemmas.{made_between}
 use Rattle.mu_model_flash.proofs.laws.ranges_of_octets.Goals as goal
 
 pub returns : goal.returns
@@ -22,6 +23,7 @@ returns c = record {
     outside_between = outside-between;
     part_between = part-between;
     octets_between = octets-between;
+    made_between = made_between;
     mark_torn = λ old at within is new torn. mark_torn old at new within (one_blank old at within is) torn;
     mark_blank = λ old at within is. reads_one old at (one_blank old at within is);
   };

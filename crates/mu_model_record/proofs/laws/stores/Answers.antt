@@ -19,4 +19,4 @@ pub returns-clause-is_found : goal.returns-clause-is_found
 returns-clause-is_found c d image represents = is_store represents.0 represents.1 d image represents.2
 
 pub returns-clause-free : goal.returns-clause-free
-returns-clause-free c page word d old new at n past free out is = free_same page word d old at n past free is new out
+returns-clause-free c page word d old new at n past free out is = (free_same c.ranges_of_octets.ensures) page word d old at n past free is new out

@@ -1,6 +1,5 @@
 use Rattle.std.proofs.Common.{◌≡◌, ◌+◌, ◌<◌, length, get_or, refl, arith, rules}
 use Rattle.std.proofs.lemmas.List.{get_or_read}
-use Rattle.mu_model_flash.proofs.MadeLemmas.{made_between}
 use Rattle.mu_outside.proofs.TearLemmas.{made_step, none_made, all_made, octets_fit, vec_octets}
 use Rattle.mu_outside.proofs.memory.mix.Goals as goal
 
@@ -18,4 +17,4 @@ pub returns-clause-between : goal.returns-clause-between
 returns-clause-between c =
     let end : c.loop-j.j ≡ length c.args.bytes.now = search rules in
     let made = all_made _ _ _ _ _ c.loop-j.j end c.loop-j.invariant in
-    made_between c.args.seed c.args.octets.now.items c.args.at c.args.bytes.now c.loop-j.octets.items c.requires.within c.requires.octets (octets_fit _ c.type_inv.bytes) (vec_octets _ c.type_inv.octets) made
+    c.ranges_of_octets.ensures.torn.made_between c.args.seed c.args.octets.now.items c.args.at c.args.bytes.now c.loop-j.octets.items c.requires.within c.requires.octets (octets_fit _ c.type_inv.bytes) (vec_octets _ c.type_inv.octets) made

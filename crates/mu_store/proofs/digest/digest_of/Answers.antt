@@ -2,9 +2,8 @@ use Rattle.std.proofs.Common.{◌≡◌, ◌+◌, ◌*◌, ◌++◌, ◌<◌, Li
 use Rattle.std.proofs.lemmas.List.{length-take-le}
 use Rattle.mu_image.specs.Digests.{HasTaken}
 use Rattle.mu_model_flash.specs.Bits.{part_of}
-use Rattle.mu_model_flash.proofs.Compose.{unchanged_same, unchanged_on}
-use Rattle.mu_record.proofs.FoundLemmas.{still_told}
 use Rattle.mu_store.proofs.ReadLemmas.{part_none, part_page}
+use Rattle.mu_store.proofs.RunLemmas.{still_told, unchanged_same}
 use Rattle.mu_store.proofs.digest.digest_of.Goals as goal
 
 pub loop-page-init : goal.loop-page-init
@@ -22,7 +21,7 @@ loop-page-preserved g c =
     let whole : length c.loop-page.piece ≡ 4096 = search rules in
     let count = c.min-count.result in
     record {
-      same = unchanged_on a s (g.F.Flash.seen c.take_piece.new.flash) before.same c.in_ok-take_piece.ensures.reads.same;
+      same = (c.runs.ensures.join c.args.flash.now c.loop-page.flash c.take_piece.new.flash).unchanged before.same c.in_ok-take_piece.ensures.reads.same;
       taken = λ told.
           subst (λ (l : List ℕ). HasTaken c.take_piece.new.digesting l) (part_page a.octets c.args.at c.args.size c.loop-page.page count below c.min-count.ensures)
           (subst (λ (o : List ℕ). HasTaken c.take_piece.new.digesting (part_of a.octets c.args.at (min c.args.size (4096 * c.loop-page.page)) ++ part_of o (c.args.at + 4096 * c.loop-page.page) count)) (before.same.octets told)

@@ -1,6 +1,6 @@
 use Rattle.std.proofs.Common.{◌∙◌, ◌++◌, List, ℕ, subst}
 use Rattle.mu_image.specs.Digests.{HasTaken}
-use Rattle.mu_model_flash.proofs.RangeLemmas.{range-part}
+use Rattle.mu_store.proofs.PartLemmas.{range-part}
 use Rattle.mu_store.proofs.digest.take_piece.Goals as goal
 
 pub returns-clause-taken : goal.returns-clause-taken

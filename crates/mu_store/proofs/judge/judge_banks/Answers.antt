@@ -1,6 +1,6 @@
 use Rattle.std.proofs.Common.{arith}
 use Rattle.mu_model_record.specs.Kinds.{other_size, other_mark}
-use Rattle.mu_record.proofs.FoundLemmas.{match_none}
+use Rattle.mu_store.proofs.JudgeLemmas.{match_none}
 use Rattle.mu_store.proofs.judge.judge_banks.Goals as goal
 
 pub returns-then-pages-pages_of-clause-judged : goal.returns-then-pages-pages_of-clause-judged

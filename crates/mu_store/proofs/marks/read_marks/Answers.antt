@@ -1,7 +1,7 @@
 use Rattle.std.proofs.Common.{false, List, Bool, length, ap, ◌∙◌, arith}
 use Rattle.std.specs.Prelude.{slice_index_or}
-use Rattle.mu_model_flash.proofs.Compose.{unchanged_same}
 use Rattle.mu_store.proofs.ReadLemmas.{get-no_flags, length-no_flags}
+use Rattle.mu_store.proofs.RunLemmas.{unchanged_same}
 use Rattle.mu_store.proofs.marks.read_marks.Goals as goal
 
 pub loop-i-init : goal.loop-i-init

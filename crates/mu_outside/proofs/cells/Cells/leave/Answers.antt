@@ -1,5 +1,4 @@
 use Rattle.std.proofs.Common.{◌+◌, ◌≤◌, ◌∙◌, length, arith, rules}
-use Rattle.mu_model_flash.proofs.BitLemmas.{octets-written, octets-between}
 use Rattle.mu_outside.proofs.TearLemmas.{octets_fit}
 use Rattle.mu_outside.proofs.cells.Cells.leave.Goals as goal
 
@@ -13,6 +12,6 @@ invariant_of-self c =
       faults_counted = search rules;
       is_image = record {
         size = c.tear.ensures.len ∙ was.size;
-        octets = octets-between _ _ _ was.octets (octets-written c.args.self.now.octets.items c.args.at c.args.bytes.now within was.octets (octets_fit _ c.type_inv.bytes)) c.tear.ensures.between;
+        octets = c.ranges_of_octets.ensures.torn.octets_between _ _ _ was.octets (c.ranges_of_octets.ensures.writes.octets_written c.args.self.now.octets.items c.args.at c.args.bytes.now within was.octets (octets_fit _ c.type_inv.bytes)) c.tear.ensures.between;
       };
     }

@@ -1,6 +1,5 @@
 use Rattle.std.proofs.Common.{◌+◌, ◌≤◌, ◌∙◌, length, subst, sym, List, ℕ, arith, rules}
 use Rattle.mu_model_flash.specs.Bits.{AreOctets}
-use Rattle.mu_model_flash.proofs.BitLemmas.{octets-written}
 use Rattle.mu_outside.proofs.TearLemmas.{octets_fit}
 use Rattle.mu_outside.proofs.cells.Cells.write.Goals as goal
 
@@ -14,6 +13,6 @@ invariant_of-self c =
       faults_counted = c.args.self.now.faults_counted;
       is_image = record {
         size = c.overwrite.ensures.len ∙ was.size;
-        octets = subst (λ (l : List ℕ). AreOctets l) (sym c.overwrite.ensures.items) (octets-written c.args.self.now.octets.items c.args.at c.args.bytes.now within was.octets (octets_fit _ c.type_inv.bytes));
+        octets = subst (λ (l : List ℕ). AreOctets l) (sym c.overwrite.ensures.items) (c.ranges_of_octets.ensures.writes.octets_written c.args.self.now.octets.items c.args.at c.args.bytes.now within was.octets (octets_fit _ c.type_inv.bytes));
       };
     }

@@ -1,6 +1,6 @@
 use Rattle.std.proofs.Common.{◌∙◌, ◌+◌, ℕ, length, ap}
 use Rattle.mu_model_flash.specs.Bits.{part_of}
-use Rattle.mu_model_flash.proofs.RangeLemmas.{range-part}
+use Rattle.mu_store.proofs.PartLemmas.{range-part}
 use Rattle.mu_store.proofs.base.Base.read_bank.Goals as goal
 
 pub returns-clause-gives : goal.returns-clause-gives

@@ -1,11 +1,11 @@
 use Rattle.std.proofs.Common.{◌∙◌, ◌<◌, sym, subst, ap, arith}
-use Rattle.mu_model_flash.proofs.Compose.{told_back}
 use Rattle.mu_model_record.specs.declared.Record.{Record}
 use Rattle.mu_model_record.specs.Record.{entry_of}
 use Rattle.mu_model_record.specs.Store.{StoreState, content_of_bank, mark_place}
 use Rattle.mu_model_record.specs.Changes.{tagged}
 use Rattle.mu_store.specs.Base.{BaseHolds}
 use Rattle.mu_store.proofs.StoreLemmas.{last_steps, tagged_then, tagged_is}
+use Rattle.mu_store.proofs.RunLemmas.{told_back}
 use Rattle.mu_store.proofs.filling.Filling.commit.Goals as goal
 
 pub invariant_of-result : goal.invariant_of-result
@@ -25,8 +25,8 @@ pub returns-in-Ok-clause-runs : goal.returns-in-Ok-clause-runs
 returns-in-Ok-clause-runs g c d holds =
     let base = c.args.self.base in
     let seen = g.F.Flash.seen base.flash in
-    let next = tagged_then seen base.place.page base.place.fresh d holds.base.at base.fields holds.base.fields c.if-base.false c.args.tag.now c.told-tag c.fits-tag in
-    let is = tagged_is seen base.place.page base.place.fresh d holds.base.at base.fields holds.base.fields c.if-base.false c.args.tag.now c.told-tag c.fits-tag in
+    let next = (tagged_then c.known.ensures) seen base.place.page base.place.fresh d holds.base.at base.fields holds.base.fields c.if-base.false c.args.tag.now c.told-tag c.fits-tag in
+    let is = (tagged_is c.known.ensures) seen base.place.page base.place.fresh d holds.base.at base.fields holds.base.fields c.if-base.false c.args.tag.now c.told-tag c.fits-tag in
     let w = c.in-Ok.ensures.runs d (tagged d c.args.tag.now) holds.base next is in
     let last = last_steps base.place.fresh d (tagged d c.args.tag.now) in (
       w.0,
@@ -42,6 +42,6 @@ pub returns-in-Err-clause-runs : goal.returns-in-Err-clause-runs
 returns-in-Err-clause-runs g c d holds why =
     let base = c.args.self.base in
     let seen = g.F.Flash.seen base.flash in
-    let next = tagged_then seen base.place.page base.place.fresh d holds.base.at base.fields holds.base.fields c.if-base.false c.args.tag.now c.told-tag c.fits-tag in
-    let is = tagged_is seen base.place.page base.place.fresh d holds.base.at base.fields holds.base.fields c.if-base.false c.args.tag.now c.told-tag c.fits-tag in
+    let next = (tagged_then c.known.ensures) seen base.place.page base.place.fresh d holds.base.at base.fields holds.base.fields c.if-base.false c.args.tag.now c.told-tag c.fits-tag in
+    let is = (tagged_is c.known.ensures) seen base.place.page base.place.fresh d holds.base.at base.fields holds.base.fields c.if-base.false c.args.tag.now c.told-tag c.fits-tag in
     c.in-Err.ensures.runs d (tagged d c.args.tag.now) holds.base next is

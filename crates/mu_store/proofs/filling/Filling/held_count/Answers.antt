@@ -14,7 +14,7 @@ returns-clause-state g c d holds =
     let base = self.base in
     let size : length self.held ≡ 256 = search rules in
     let long : length holds.blocks ≡ block_count self.size self.log = blocks_long d base.fields holds.base.fields self.bank self.size self.log self.there self.entry holds.blocks holds.content (g.F.Flash.seen base.flash) base.place.page base.place.fresh holds.base.at in
-    let few = few_of base.fields self.bank self.size self.log base.in_range self.there self.entry in
+    let few = (few_of c.known.ensures) base.fields self.bank self.size self.log base.in_range self.there self.entry in
     c.count_flags.ensures
     ∙ ap (λ (n : ℕ). count_by (λ held. held) (take n self.held)) (c.block_count.ensures.count ∙ sym long)
     ∙ count_same self.held holds.blocks (omega (arith, size, long, few)) (λ i lt. holds.flags i (omega (arith, lt, long)))

@@ -2,7 +2,6 @@ use Rattle.std.proofs.Common.{◌≡◌, ◌∙◌, ◌*◌, ◌<◌, ◌≤◌,
 use Rattle.std.specs.Prelude.{slice_index_or}
 use Rattle.mu_model_image.specs.Pieces.{block_count}
 use Rattle.mu_model_flash.specs.Run.{either, Ran, Broke}
-use Rattle.mu_model_flash.proofs.Compose.{told_back, then_ran, then_broke, broke_more}
 use Rattle.mu_model_record.specs.declared.Record.{Record}
 use Rattle.mu_model_record.specs.declared.BankState.{BankState}
 use Rattle.mu_model_record.specs.declared.BankState.TheVariants.{Empty, Filling}
@@ -13,15 +12,17 @@ use Rattle.mu_model_record.specs.Next.{record_steps}
 use Rattle.mu_model_record.specs.Changes.{begun}
 use Rattle.mu_record.specs.declared.write.Place.{Place}
 use Rattle.mu_store.specs.Base.{BaseHolds}
+use Rattle.mu_model_record.specs.Ways.{as_store}
 use Rattle.mu_store.proofs.StoreLemmas.{last_steps}
 use Rattle.mu_store.proofs.FillLemmas.{few_blocks, begun_then, begun_is, begun_content, begun_flags}
+use Rattle.mu_store.proofs.RunLemmas.{told_back}
 use Rattle.mu_store.proofs.store.Store.begin.Goals as goal
 
 pub returns-in-Err-clause-runs : goal.returns-in-Err-clause-runs
 returns-in-Err-clause-runs g c d holds why =
     let base = c.args.self.base in
     let e = begun d c.args.bank c.args.size c.args.log c.args.tag.now in
-    broke_more (either RepresentsStore) d (d ∷ []) (record_steps base.place.fresh d e) (g.F.Flash.seen base.flash) (g.F.Flash.seen c.in-Err.stopped.flash) (c.in-Err.ensures.runs d holds c.args.self.rests)
+    (c.runs.ensures.read base.flash c.in-Err.stopped.flash).longer as_store d (d ∷ []) (record_steps base.place.fresh d e) (c.in-Err.ensures.runs d holds c.args.self.rests)
 
 pub invariant_of-result : goal.invariant_of-result
 invariant_of-result g c =
@@ -29,7 +30,7 @@ invariant_of-result g c =
     let erased = c.in-Ok.erased in
     let next = c.in-Ok-write.base in
     let fields = c.in-Ok-write.ensures.fields in
-    let few = few_blocks c.args.size c.args.log (omega (arith, c.requires.most, base.in_range.pages_most)) c.requires.log_least c.requires.log_most in
+    let few = (few_blocks c.known.ensures) c.args.size c.args.log (omega (arith, c.requires.most, base.in_range.pages_most)) c.requires.log_least c.requires.log_most in
     let there : c.args.bank < length base.fields.banks = omega (arith, c.requires.there, base.in_range.number_most, base.in_range.four) in
     record {
       there = subst (λ (r : Record). c.args.bank < r.number) (sym fields) c.requires.there;
@@ -51,12 +52,12 @@ returns-in-Err-write-clause-runs g c d holds why =
     let there = subst (λ (r : Record). c.args.bank < r.number) (sym c.in-Ok.ensures.fields) c.requires.there in
     let most = subst (λ (r : Record). c.args.size ≤ 4096 * r.pages) (sym c.in-Ok.ensures.fields) c.requires.most in
     let rests = subst (λ (r : Record). (n : ℕ) → ¬ IsFilling (entry_of r n)) (sym c.in-Ok.ensures.fields) c.args.self.rests in
-    let next = begun_then (seen erased.flash) erased.place.page erased.place.fresh d first.1.at erased.fields first.1.fields not_last c.args.tag.now c.told-tag c.fits-tag c.args.bank there
+    let next = (begun_then c.known.ensures) (seen erased.flash) erased.place.page erased.place.fresh d first.1.at erased.fields first.1.fields not_last c.args.tag.now c.told-tag c.fits-tag c.args.bank there
     c.args.size c.args.log c.requires.some most c.requires.log_least c.requires.log_most rests (c.in-Ok.ensures.blank first.1.at.told) in
-    let is = begun_is (seen base.flash) base.place.page base.place.fresh d holds.at base.fields holds.fields c.if-base.false c.args.tag.now c.told-tag c.fits-tag c.args.bank c.requires.there
+    let is = (begun_is c.known.ensures) (seen base.flash) base.place.page base.place.fresh d holds.at base.fields holds.fields c.if-base.false c.args.tag.now c.told-tag c.fits-tag c.args.bank c.requires.there
     c.args.size c.args.log c.requires.some c.requires.most c.requires.log_least c.requires.log_most c.args.self.rests c.with_entry.result c.with_entry.ensures in
     let broke = subst (λ (p : Place). Broke (either RepresentsStore) d (record_steps p.fresh d e) (seen erased.flash) (seen c.in-Err-write.stopped.flash)) c.in-Ok.ensures.place (c.in-Err-write.ensures.runs d e first.1 next is) in
-    then_broke (either RepresentsStore) d (d ∷ []) (record_steps base.place.fresh d e) (seen base.flash) (seen erased.flash) (seen c.in-Err-write.stopped.flash) first.0 broke
+    (c.runs.ensures.join base.flash erased.flash c.in-Err-write.stopped.flash).broke as_store d (d ∷ []) (record_steps base.place.fresh d e) first.0 broke
 
 pub returns-in-Ok-write-clause-runs : goal.returns-in-Ok-write-clause-runs
 returns-in-Ok-write-clause-runs g c d holds =
@@ -69,18 +70,18 @@ returns-in-Ok-write-clause-runs g c d holds =
     let there = subst (λ (r : Record). c.args.bank < r.number) (sym c.in-Ok.ensures.fields) c.requires.there in
     let most = subst (λ (r : Record). c.args.size ≤ 4096 * r.pages) (sym c.in-Ok.ensures.fields) c.requires.most in
     let rests = subst (λ (r : Record). (n : ℕ) → ¬ IsFilling (entry_of r n)) (sym c.in-Ok.ensures.fields) c.args.self.rests in
-    let next = begun_then (seen erased.flash) erased.place.page erased.place.fresh d first.1.at erased.fields first.1.fields not_last c.args.tag.now c.told-tag c.fits-tag c.args.bank there
+    let next = (begun_then c.known.ensures) (seen erased.flash) erased.place.page erased.place.fresh d first.1.at erased.fields first.1.fields not_last c.args.tag.now c.told-tag c.fits-tag c.args.bank there
     c.args.size c.args.log c.requires.some most c.requires.log_least c.requires.log_most rests (c.in-Ok.ensures.blank first.1.at.told) in
-    let is = begun_is (seen base.flash) base.place.page base.place.fresh d holds.at base.fields holds.fields c.if-base.false c.args.tag.now c.told-tag c.fits-tag c.args.bank c.requires.there
+    let is = (begun_is c.known.ensures) (seen base.flash) base.place.page base.place.fresh d holds.at base.fields holds.fields c.if-base.false c.args.tag.now c.told-tag c.fits-tag c.args.bank c.requires.there
     c.args.size c.args.log c.requires.some c.requires.most c.requires.log_least c.requires.log_most c.args.self.rests c.with_entry.result c.with_entry.ensures in
     let done = c.in-Ok-write.ensures.runs d e first.1 next is in
     let ran = subst (λ (p : Place). Ran (either RepresentsStore) d (record_steps p.fresh d e) (seen erased.flash) (seen c.in-Ok-write.base.flash)) c.in-Ok.ensures.place done.0 in
     let last = last_steps base.place.fresh d e in
-    let content = begun_content (seen base.flash) base.place.page base.place.fresh d holds.at base.fields holds.fields c.if-base.false c.args.tag.now c.told-tag c.fits-tag c.args.bank c.requires.there
+    let content = (begun_content c.known.ensures) (seen base.flash) base.place.page base.place.fresh d holds.at base.fields holds.fields c.if-base.false c.args.tag.now c.told-tag c.fits-tag c.args.bank c.requires.there
     c.args.size c.args.log c.requires.some c.requires.most c.requires.log_least c.requires.log_most c.args.self.rests in
-    let flags = begun_flags (seen base.flash) base.place.page base.place.fresh d holds.at base.fields holds.fields c.if-base.false c.args.tag.now c.told-tag c.fits-tag c.args.bank c.requires.there
+    let flags = (begun_flags c.known.ensures) (seen base.flash) base.place.page base.place.fresh d holds.at base.fields holds.fields c.if-base.false c.args.tag.now c.told-tag c.fits-tag c.args.bank c.requires.there
     c.args.size c.args.log c.requires.some c.requires.most c.requires.log_least c.requires.log_most c.args.self.rests in (
-      then_ran (either RepresentsStore) d (d ∷ []) (record_steps base.place.fresh d e) (seen base.flash) (seen erased.flash) (seen c.in-Ok-write.base.flash) first.0 ran,
+      (c.runs.ensures.join base.flash erased.flash c.in-Ok-write.base.flash).ran as_store d (d ∷ []) (record_steps base.place.fresh d e) first.0 ran,
       record {
         base = subst (λ (x : StoreState). BaseHolds seen c.in-Ok-write.base x) (sym last) done.1;
         blocks = replicate (block_count c.args.size c.args.log) None;

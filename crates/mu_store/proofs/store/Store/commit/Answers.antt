@@ -9,8 +9,8 @@ pub returns-in-Ok-clause-runs : goal.returns-in-Ok-clause-runs
 returns-in-Ok-clause-runs g c d holds =
     let base = c.args.self.base in
     let seen = g.F.Flash.seen base.flash in
-    let next = tagged_then seen base.place.page base.place.fresh d holds.at base.fields holds.fields c.if-base.false c.args.tag.now c.told-tag c.fits-tag in
-    let is = tagged_is seen base.place.page base.place.fresh d holds.at base.fields holds.fields c.if-base.false c.args.tag.now c.told-tag c.fits-tag in
+    let next = (tagged_then c.known.ensures) seen base.place.page base.place.fresh d holds.at base.fields holds.fields c.if-base.false c.args.tag.now c.told-tag c.fits-tag in
+    let is = (tagged_is c.known.ensures) seen base.place.page base.place.fresh d holds.at base.fields holds.fields c.if-base.false c.args.tag.now c.told-tag c.fits-tag in
     let w = c.in-Ok.ensures.runs d (tagged d c.args.tag.now) holds next is in
     (w.0, subst (λ (e : StoreState). BaseHolds g.F.Flash.seen c.in-Ok.base e) (sym (last_steps base.place.fresh d (tagged d c.args.tag.now))) w.1)
 
@@ -18,6 +18,6 @@ pub returns-in-Err-clause-runs : goal.returns-in-Err-clause-runs
 returns-in-Err-clause-runs g c d holds why =
     let base = c.args.self.base in
     let seen = g.F.Flash.seen base.flash in
-    let next = tagged_then seen base.place.page base.place.fresh d holds.at base.fields holds.fields c.if-base.false c.args.tag.now c.told-tag c.fits-tag in
-    let is = tagged_is seen base.place.page base.place.fresh d holds.at base.fields holds.fields c.if-base.false c.args.tag.now c.told-tag c.fits-tag in
+    let next = (tagged_then c.known.ensures) seen base.place.page base.place.fresh d holds.at base.fields holds.fields c.if-base.false c.args.tag.now c.told-tag c.fits-tag in
+    let is = (tagged_is c.known.ensures) seen base.place.page base.place.fresh d holds.at base.fields holds.fields c.if-base.false c.args.tag.now c.told-tag c.fits-tag in
     c.in-Err.ensures.runs d (tagged d c.args.tag.now) holds next is

@@ -22,7 +22,7 @@ returns-then-count-eq0-clause-piece g c =
       end = λ lt. c.in-Ok.ensures.end (omega (arith, zero));
       size = omega arith;
       taken = λ octets has. subst (λ (l : List ℕ). HasTaken c.args.self.digesting l) (sym (append-nil octets)) has;
-      puts = puts_none g.F.Flash.seen (4096 * c.args.page) c.args.self.base (g.met.F.Flash.sound c.args.self.base.flash);
+      puts = (puts_none c.known.ensures) g.F.Flash.seen c.runs.ensures (4096 * c.args.page) c.args.self.base (g.met.F.Flash.sound c.args.self.base.flash);
     }
 
 pub returns-in-Ok-put-clause-piece : goal.returns-in-Ok-put-clause-piece
