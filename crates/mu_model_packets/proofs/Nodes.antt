@@ -16,7 +16,7 @@ use Rattle.mu_model_packets.proofs.Opcodes.{Keeps, keeps_two, keeps_67, keeps_68
 
 -- ---- opcodes of replies
 
-abbrev opcode_of : Reply → ℕ
+abbrev pub opcode_of : Reply → ℕ
 opcode_of (ByUpdate (InformationStatus count first ids)) = 0x8309
 opcode_of (ByUpdate (MetadataStatus status index)) = 0x830B
 opcode_of (ByUpdate (UpdateStatus status phase job)) = 0x8310
@@ -25,7 +25,7 @@ opcode_of (ByBlob (TransferStatus status mode phase id parameters missing)) = 0x
 opcode_of (ByBlob (BlockStatus status block chunk_size report)) = 0x67
 opcode_of (ByBlob (PartialBlockReport chunks)) = 0x68
 
-reply_kept : (reply : Reply) → Keeps (opcode_of reply) (reply_octets reply)
+pub reply_kept : (reply : Reply) → Keeps (opcode_of reply) (reply_octets reply)
 reply_kept (ByUpdate (InformationStatus count first ids)) = keeps_two (reply_octets (ByUpdate (InformationStatus count first ids))) 0x09 _ refl
 reply_kept (ByUpdate (MetadataStatus status index)) = keeps_two (reply_octets (ByUpdate (MetadataStatus status index))) 0x0B _ refl
 reply_kept (ByUpdate (UpdateStatus status phase job)) = keeps_two (reply_octets (ByUpdate (UpdateStatus status phase job))) 0x10 _ refl
@@ -34,7 +34,7 @@ reply_kept (ByBlob (TransferStatus status mode phase id parameters missing)) = k
 reply_kept (ByBlob (BlockStatus status block chunk_size report)) = keeps_67 (reply_octets (ByBlob (BlockStatus status block chunk_size report))) _ refl
 reply_kept (ByBlob (PartialBlockReport chunks)) = keeps_68 (reply_octets (ByBlob (PartialBlockReport chunks))) _ refl
 
-reply_other : (reply : Reply) → IsOther (opcode_of reply)
+pub reply_other : (reply : Reply) → IsOther (opcode_of reply)
 reply_other (ByUpdate (InformationStatus count first ids)) = record { numbers = λ m e. rw e tt; distribution = λ m e. rw e refl }
 reply_other (ByUpdate (MetadataStatus status index)) = record { numbers = λ m e. rw e tt; distribution = λ m e. rw e refl }
 reply_other (ByUpdate (UpdateStatus status phase job)) = record { numbers = λ m e. rw e tt; distribution = λ m e. rw e refl }

@@ -1,6 +1,8 @@
 //! Laws of the definitions: functions that do nothing, whose contracts are proved.
 
-ghost use Rattle.mu_model_packets.specs.Laws.{NodesSendFit, OctetsSayFit};
+ghost use Rattle.mu_model_packets.specs.Laws.{DistributorsSendFit, NodesSendFit, OctetsSayFit, UpdatersSendFit};
+
+use mu_model_client_laws::laws::requests_are_no_answers;
 
 /// What octets say to a node and to a distributor is in the ranges of the grammar.
 pub fn octets_say_fit()
@@ -15,3 +17,21 @@ pub fn octets_say_fit()
 pub fn nodes_send_fit()
     ensures { NodesSendFit }
 {}
+
+/// What an updater sends is in the ranges of the grammar, where its plan is.
+pub fn updaters_send_fit()
+    ensures { UpdatersSendFit }
+{
+    octets_say_fit();
+    requests_are_no_answers();
+    mu_model_updater::laws::starts_are_offered();
+}
+
+/// What a distributor sends is in the ranges of the grammar.
+pub fn distributors_send_fit()
+    ensures { DistributorsSendFit }
+{
+    octets_say_fit();
+    requests_are_no_answers();
+    mu_model_offers::laws::offers_agree();
+}
