@@ -1,3 +1,4 @@
+pub mod Lists
 pub mod Tested
 pub mod Opcodes
 pub mod Nodes

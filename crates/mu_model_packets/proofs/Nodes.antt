@@ -1,5 +1,5 @@
 -- Each packet of a node is an answer: whatever its numbers are, it is read as a status or a report of its kind, or as nothing.
-use Rattle.std.proofs.Common.{ℕ, true, false, List, [], ◌∷◌, ◌++◌, map, refl, cond, Option, Some, None}
+use Rattle.std.proofs.Common.{ℕ, true, false, List, [], ◌∷◌, map, refl, cond, Option, Some, None}
 use Rattle.std.specs.List.{AllByRecursion}
 use Rattle.mu_model_wire.specs.Packet.{Packet}
 use Rattle.mu_model_node.specs.declared.NodeConfig.{NodeConfig}
@@ -12,6 +12,7 @@ use Rattle.mu_model_node.specs.Safe.{Happening, Done, CutPower, Torn, happened}
 use Rattle.mu_model_node.specs.TimeTable.{on_time}
 use Rattle.mu_model_told.specs.Reached.{sent_by, sent_in}
 use Rattle.mu_model_packets.specs.Laws.{IsAnswer, NodesSendFit}
+use Rattle.mu_model_packets.proofs.Lists.{joined}
 use Rattle.mu_model_packets.proofs.Opcodes.{Keeps, keeps_two, keeps_67, keeps_68, IsOther, IsReply, packet_answers}
 
 -- ---- opcodes of replies
@@ -81,13 +82,9 @@ happening_answers config s (Done event now) = event_answers config (at_moment s 
 happening_answers config s CutPower = tt
 happening_answers config s (Torn event now operations) = tt
 
-joined : (a b : List Packet) → Answers a → Answers b → Answers (a ++ b)
-joined [] b h k = k
-joined (p ∷ a) b h k = (h.0, joined a b h.1 k)
-
 run_answers : (config : NodeConfig) (s : NodeState) (hs : List Happening) → Answers (sent_in config s hs)
 run_answers config s [] = tt
-run_answers config s (h ∷ hs) = joined (sent_by config s h) (sent_in config (happened config s h) hs) (happening_answers config s h) (run_answers config (happened config s h) hs)
+run_answers config s (h ∷ hs) = joined IsAnswer (sent_by config s h) (sent_in config (happened config s h) hs) (happening_answers config s h) (run_answers config (happened config s h) hs)
 
 pub nodes_send_fit : NodesSendFit
 nodes_send_fit config d hs sound numbers fits = run_answers config (restarted d) hs

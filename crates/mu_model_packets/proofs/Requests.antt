@@ -13,6 +13,7 @@ use Rattle.mu_model_node.specs.NodeMessages.{Request, OfUpdate, OfBlob}
 use Rattle.mu_model_client.specs.Packets.{request_message, request_octets, request_packet}
 use Rattle.mu_model_client_laws.specs.Wire.{RequestsKeepTheirOpcodes}
 use Rattle.mu_model_packets.specs.Laws.{PacketFits, OctetsSayFit}
+use Rattle.mu_model_packets.proofs.Lists.{joined}
 use Rattle.mu_model_packets.proofs.Opcodes.{IsOther, packet_fits}
 
 -- ---- octets
@@ -20,10 +21,6 @@ use Rattle.mu_model_packets.proofs.Opcodes.{IsOther, packet_fits}
 -- by recursion
 abbrev Small : List ℕ → Type 0
 Small xs = AllByRecursion (λ (octet : ℕ). octet < 256) xs
-
-joined : (xs ys : List ℕ) → Small xs → Small ys → Small (xs ++ ys)
-joined [] ys h k = k
-joined (x ∷ xs) ys h k = (h.0, joined xs ys h.1 k)
 
 are_octets : (xs : List ℕ) → Small xs → AreOctets xs
 are_octets [] h i = omega arith
@@ -43,7 +40,7 @@ low_small i (suc k) n = (octet_small i n, low_small (suc i) k n)
 
 -- a number before other octets
 before : (k n : ℕ) (xs : List ℕ) → Small xs → Small (little_bytes k n ++ xs)
-before k n xs h = joined (little_bytes k n) xs (low_small 0 k n) h
+before k n xs h = joined (λ (octet : ℕ). octet < 256) (little_bytes k n) xs (low_small 0 k n) h
 
 pub meta_small : (meta : Meta) → IsMeta meta → Small (meta_octets meta)
 meta_small meta h =

@@ -1,5 +1,5 @@
 -- What an updater sends is in every range.
-use Rattle.std.proofs.Common.{◌≡◌, ℕ, true, false, List, [], ◌∷◌, ◌++◌, map, refl, sym, subst, cond, Option, Some, None}
+use Rattle.std.proofs.Common.{◌≡◌, ℕ, true, false, List, [], ◌∷◌, map, refl, sym, subst, cond, Option, Some, None}
 use Rattle.std.specs.Prelude.{◌==◌}
 use Rattle.std.specs.List.{AllByRecursion}
 use Rattle.mu_model_image.specs.Meta.{IsMeta}
@@ -15,24 +15,8 @@ use Rattle.mu_model_client_laws.specs.Wire.{RequestsKeepTheirOpcodes}
 use Rattle.mu_model_updater.specs.Updater.{Updater, new_updater, updater_step, asked_by, sent_in, start_in, starts_of, starts_in}
 use Rattle.mu_model_updater.specs.Laws.{IsOffered, StartsAreOffered}
 use Rattle.mu_model_packets.specs.Laws.{PacketFits, OctetsSayFit, UpdatersSendFit}
+use Rattle.mu_model_packets.proofs.Lists.{joined, left_of, right_of}
 use Rattle.mu_model_packets.proofs.Requests.{HasOctets, meta_small, request_fits}
-
--- ---- lists
-
-abbrev Fit : List Packet → Type 0
-Fit sent = AllByRecursion PacketFits sent
-
-joined : (a b : List Packet) → Fit a → Fit b → Fit (a ++ b)
-joined [] b h k = k
-joined (p ∷ a) b h k = (h.0, joined a b h.1 k)
-
-left_all : {A : Type 0} (P : A → Type 0) (xs ys : List A) → AllByRecursion P (xs ++ ys) → AllByRecursion P xs
-left_all P [] ys h = tt
-left_all P (x ∷ xs) ys h = (h.0, left_all P xs ys h.1)
-
-right_all : {A : Type 0} (P : A → Type 0) (xs ys : List A) → AllByRecursion P (xs ++ ys) → AllByRecursion P ys
-right_all P [] ys h = h
-right_all P (x ∷ xs) ys h = right_all P xs ys h.1
 
 -- ---- Update Starts have the plan's metadata
 
@@ -67,17 +51,20 @@ event_sends u TimeComes now = refl
 
 -- ---- runs
 
+abbrev Fit : List Packet → Type 0
+Fit sent = AllByRecursion PacketFits sent
+
 asked_fit : OctetsSayFit → RequestsKeepTheirOpcodes → (plan : Plan) (to : List (ℕ × ℕ)) (from : ℕ) (asked : List (ℕ × Request)) → IsMeta plan.meta → AllByRecursion (IsOfferedBy plan to) (starts_of asked) → Fit (map (request_packet from) asked)
 asked_fit fit keeps plan to from [] meta h = tt
 asked_fit fit keeps plan to from (x ∷ asked) meta h =
-    (request_fits fit keeps from x.0 x.1 (has_octets plan to x.0 x.1 meta (left_all (IsOfferedBy plan to) (start_in x.0 x.1) (starts_of asked) h)), asked_fit fit keeps plan to from asked meta (right_all (IsOfferedBy plan to) (start_in x.0 x.1) (starts_of asked) h))
+    (request_fits fit keeps from x.0 x.1 (has_octets plan to x.0 x.1 meta (left_of (IsOfferedBy plan to) (start_in x.0 x.1) (starts_of asked) h)), asked_fit fit keeps plan to from asked meta (right_of (IsOfferedBy plan to) (start_in x.0 x.1) (starts_of asked) h))
 
 run_fits : OctetsSayFit → RequestsKeepTheirOpcodes → (plan : Plan) (to : List (ℕ × ℕ)) (u : Updater) (run : List (NodeEvent × ℕ)) → IsMeta plan.meta → AllByRecursion (IsOfferedBy plan to) (starts_in u run) → Fit (sent_in u run)
 run_fits fit keeps plan to u [] meta h = tt
 run_fits fit keeps plan to u (e ∷ run) meta h =
-    let own = left_all (IsOfferedBy plan to) (starts_of (asked_by u e.0 e.1)) (starts_in (updater_step u e.0 e.1).next run) h in
-    let others = right_all (IsOfferedBy plan to) (starts_of (asked_by u e.0 e.1)) (starts_in (updater_step u e.0 e.1).next run) h in
-    joined (updater_step u e.0 e.1).sent (sent_in (updater_step u e.0 e.1).next run)
+    let own = left_of (IsOfferedBy plan to) (starts_of (asked_by u e.0 e.1)) (starts_in (updater_step u e.0 e.1).next run) h in
+    let others = right_of (IsOfferedBy plan to) (starts_of (asked_by u e.0 e.1)) (starts_in (updater_step u e.0 e.1).next run) h in
+    joined PacketFits (updater_step u e.0 e.1).sent (sent_in (updater_step u e.0 e.1).next run)
     (subst Fit (sym (event_sends u e.0 e.1)) (asked_fit fit keeps plan to u.client.sending.from (asked_by u e.0 e.1) meta own))
     (run_fits fit keeps plan to (updater_step u e.0 e.1).next run meta others)
 
