@@ -4,3 +4,4 @@ pub mod DoingPlaces
 pub mod DoingEvents
 pub mod DoingLines
 pub mod Doing
+pub mod Facts
