@@ -1,2 +1,4 @@
 pub mod Deeds
 pub mod Kept
+pub mod KeepingLists
+pub mod KeepingPlaces
