@@ -2,3 +2,5 @@ pub mod Deeds
 pub mod Kept
 pub mod KeepingLists
 pub mod KeepingPlaces
+pub mod KeepingPackets
+pub mod KeepingNodes
