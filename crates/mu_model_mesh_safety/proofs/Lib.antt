@@ -4,3 +4,5 @@ pub mod KeepingLists
 pub mod KeepingPlaces
 pub mod KeepingPackets
 pub mod KeepingNodes
+pub mod KeepingUpdaters
+pub mod KeepingDistributors
