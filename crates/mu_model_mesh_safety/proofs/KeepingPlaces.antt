@@ -68,7 +68,7 @@ placed order xs more_xs ys more_ys zs more_zs px py pz p = record {
 -- ---- one member more
 
 -- nothing stands at an address of no member
-free_of : {X : Type 0} (order : List ℕ) (xs : List (ℕ × X)) (a : ℕ) → list_any (nat_eq a) order ≡ false → ((x : X) → lookup (nat_eq a) xs ≡ Some x → list_any (nat_eq a) order ≡ true)
+pub free_of : {X : Type 0} (order : List ℕ) (xs : List (ℕ × X)) (a : ℕ) → list_any (nat_eq a) order ≡ false → ((x : X) → lookup (nat_eq a) xs ≡ Some x → list_any (nat_eq a) order ≡ true)
     → lookup (nat_eq a) xs ≡ None
 free_of order xs a free there = none_from _ (λ x is. let is_there = there x is in absurd cc)
 

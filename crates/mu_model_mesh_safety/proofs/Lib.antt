@@ -6,3 +6,6 @@ pub mod KeepingPackets
 pub mod KeepingNodes
 pub mod KeepingUpdaters
 pub mod KeepingDistributors
+pub mod KeepingGoes
+pub mod KeepingMembers
+pub mod Keeping
