@@ -1,5 +1,5 @@
 -- Addresses stay apart, and a world from its parts.
-use Rattle.std.proofs.Common.{◌≡◌, ℕ, List, [], ◌∷◌, ◌++◌, Option, Some, None, Bool, true, false, cond, nat_eq, ◌||◌, refl, sym, ap, ◌∙◌, subst, ◌⊎◌, inl, inr}
+use Rattle.std.proofs.Common.{◌≡◌, ℕ, List, [], ◌∷◌, ◌++◌, Option, Some, None, Bool, true, false, nat_eq, ◌||◌, refl, sym, ap, ◌∙◌, subst, ◌⊎◌, inl, inr}
 use Rattle.std.proofs.lemmas.List.Folds.{list_any-append}
 use Rattle.std.specs.List.{list_any}
 use Rattle.std.specs.Map.{lookup}
@@ -7,8 +7,8 @@ use Rattle.mu_model_wire.specs.Packet.{Packet}
 use Rattle.mu_model_script.specs.Ranges.{IsUnicast}
 use Rattle.mu_model_world.specs.World.{Member, Logged}
 use Rattle.mu_model_mesh.specs.Mesh.{UpdaterMember, DistributorMember, Mesh}
-use Rattle.mu_model_mesh_safety.proofs.Kept.{AreApart, Kept}
-use Rattle.mu_model_mesh_safety.proofs.KeepingLists.{AreSame, Yes, No, are_same, none_from, added, added_none, added_other, added_here, SamePlaces, stays_none}
+use Rattle.mu_model_mesh_safety.proofs.Kept.{AreApart}
+use Rattle.mu_model_mesh_safety.proofs.KeepingLists.{Yes, No, are_same, none_from, added, added_none, added_other, added_here, SamePlaces, stays_none}
 
 -- ---- an order, and one address more
 

@@ -11,7 +11,7 @@ use Rattle.mu_model_updater.specs.Updater.{Updater, new_updater, updater_step, u
 use Rattle.mu_model_mesh.specs.Mesh.{UpdaterMember}
 use Rattle.mu_model_mesh_safety.proofs.Deeds.{AreIn}
 use Rattle.mu_model_mesh_safety.proofs.Kept.{UpdaterRun}
-use Rattle.mu_model_mesh_safety.proofs.KeepingLists.{all_append, all_right, weaker}
+use Rattle.mu_model_mesh_safety.proofs.KeepingLists.{all_append, all_right}
 use Rattle.mu_model_mesh_safety.proofs.KeepingPackets.{AllFrom, in_wider, sent_other, sent_own}
 
 -- ---- one event more
