@@ -5,3 +5,12 @@ pub mod DoingEvents
 pub mod DoingLines
 pub mod Doing
 pub mod Facts
+pub mod KeepingLists
+pub mod KeepingPlaces
+pub mod KeepingPackets
+pub mod KeepingNodes
+pub mod KeepingUpdaters
+pub mod KeepingDistributors
+pub mod KeepingGoes
+pub mod KeepingMembers
+pub mod Keeping
