@@ -4,7 +4,7 @@ use Rattle.std.specs.List.{AllByRecursion}
 use Rattle.mu_model_image.specs.Meta.{Image}
 use Rattle.mu_model_wire.specs.Packet.{Packet}
 use Rattle.mu_model_node.specs.Log.{LogEntry, Reached, logged}
-use Rattle.mu_model_node.specs.NodeState.{Job, NodeDurable, restarted}
+use Rattle.mu_model_node.specs.NodeState.{Job, NodeDurable, NodeState, restarted}
 use Rattle.mu_model_node.specs.Safe.{Happening, InOrder, ImageIsSafe, found, happened, state_after, log_after}
 use Rattle.mu_model_node.specs.UpdateMessages.{ShownJob, InformationStatus, UpdateStatus}
 use Rattle.mu_model_client.specs.Answers.{Answer, FromUpdate, answer_at}
@@ -82,17 +82,21 @@ module _ (sent : SentIsReached) where
 
 -- ---- logs
 
+versions_of : VersionsRiseInRuns → (bag : List Packet) (address : ℕ) (n : Member) (log : List LogEntry) (r : NodeRun bag address n) → IsLogOf bag address n r log → VersionsOf n.first log n.state.durable.images
+versions_of law bag address n log r is = rw (r.first, is, r.state) (law (config_of address n) r.made r.hs r.jobless)
+
 pub versions_rise : VersionsRiseInRuns → (m : Mesh) → Kept m → VersionsRise m
 versions_rise law m k address n at =
     let run = k.nodes address n at in
-    let r : NodeRun m.nodes.bag address n = run.0 in
-    rw (r.first, run.1, r.state) (law (config_of address n) r.made r.hs r.jobless)
+    versions_of law m.nodes.bag address n (log_at address m.nodes.log) run.0 run.1
+
+job_of_run : JobIsLogged → (bag : List Packet) (address : ℕ) (n : Member) (log : List LogEntry) (r : NodeRun bag address n) → IsLogOf bag address n r log → (j : Job) → n.state.durable.job ≡ Some j → IsLogged log j
+job_of_run law bag address n log r is j has = rw is (law (config_of address n) r.made r.hs r.jobless j (subst (λ (s : NodeState). s.durable.job ≡ Some j) r.state has))
 
 pub jobs_are_logged : JobIsLogged → (m : Mesh) → Kept m → JobsAreLogged m
-jobs_are_logged law m k address n j at is =
+jobs_are_logged law m k address n j at has =
     let run = k.nodes address n at in
-    let r : NodeRun m.nodes.bag address n = run.0 in
-    rw run.1 (law (config_of address n) r.made r.hs r.jobless j (subst (λ s. s.durable.job ≡ Some j) r.state is))
+    job_of_run law m.nodes.bag address n (log_at address m.nodes.log) run.0 run.1 j has
 
 pub verified_jobs_go_on : JobGoesOn → (m : Mesh) → VerifiedJobsGoOn m
 verified_jobs_go_on law m address n j h at is = law (config_of address n) n.state h j is
