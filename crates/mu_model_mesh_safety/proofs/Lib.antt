@@ -1,2 +1,4 @@
 pub mod Deeds
 pub mod Kept
+pub mod Shown
+pub mod ShownOctets
