@@ -2,3 +2,4 @@ pub mod Deeds
 pub mod Kept
 pub mod Shown
 pub mod ShownOctets
+pub mod ShownStarts
