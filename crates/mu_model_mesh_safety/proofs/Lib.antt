@@ -1,5 +1,6 @@
 pub mod Deeds
 pub mod Kept
 pub mod Shown
+pub mod ShownNodes
 pub mod ShownOctets
 pub mod ShownStarts
