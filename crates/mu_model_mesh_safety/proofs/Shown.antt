@@ -25,7 +25,7 @@ pub all_of : {X : Type 0} (P : X → Type 0) (xs : List X) → ((x : X) → Cont
 all_of P [] f = tt
 all_of P (x ∷ xs) f = (f x (0, omega arith, refl), all_of P xs (λ y p. f y (Contains-append_right (x ∷ []) xs y p)))
 
-first_or : {X : Type 0} (x : X) (xs : List X) (y : X) → Contains (x ∷ xs) y → (x ≡ y) ⊎ Contains xs y
+pub first_or : {X : Type 0} (x : X) (xs : List X) (y : X) → Contains (x ∷ xs) y → (x ≡ y) ⊎ Contains xs y
 first_or x xs y (zero, within, is) = inl is
 first_or x xs y (suc k, within, is) = inr (k, omega (arith, within), is)
 

@@ -58,7 +58,7 @@ module _ (fit : NodesSendFit) (read : ReadStartsAreOffered) (say : PacketsSaySta
       let small : r.run.address < 2 ^ 16 = omega (arith, most, at) in
       (of_all (IsPacketOf r.run) (packets_of r.run) p (say r.run r.is small) sent).start u s
 
-  own_start : (bag : List Packet) (a : ℕ) (d : DistributorMember) (r : DistributorRun bag a d) (to : ℕ) (u : UpdateStart) → HasStart (sent_of r.run) to u → IsOwnStart r.run.address to u
+  pub own_start : (bag : List Packet) (a : ℕ) (d : DistributorMember) (r : DistributorRun bag a d) (to : ℕ) (u : UpdateStart) → HasStart (sent_of r.run) to u → IsOwnStart r.run.address to u
   own_start bag a d r to u h = own r.run to u r.is h
 
   start_owner : (bag : List Packet) (a : ℕ) (d : DistributorMember) (r : DistributorRun bag a d) (to : ℕ) (u : UpdateStart) → HasStart (sent_of r.run) to u → owner_of u.id ≡ a
