@@ -1,5 +1,5 @@
 -- The few ways in which a world changes.
-use Rattle.std.proofs.Common.{◌≡◌, ℕ, ◌≤◌, ◌<◌, ◌*◌, ◌^◌, ◌+◌, List, [], ◌∷◌, ◌++◌, length, map, Option, Some, None, Bool, true, false, nat_eq, Contains}
+use Rattle.std.proofs.Common.{◌≡◌, ◌⊎◌, ℕ, ◌≤◌, ◌<◌, ◌*◌, ◌^◌, ◌+◌, List, [], ◌∷◌, ◌++◌, length, map, Option, Some, None, Bool, true, false, nat_eq, Contains}
 use Rattle.std.specs.List.{AllByRecursion}
 use Rattle.std.specs.Map.{set_value}
 use Rattle.mu_model_image.specs.Meta.{Image, IsMeta}
@@ -150,6 +150,8 @@ pub record DistributorGoes (m next : Mesh) : Type 0 where
 pub record NewNode (m next : Mesh) : Type 0 where
   pub address : ℕ
   pub group : ℕ
+  -- none, or a group's address, so no node's
+  pub no_address : (group ≡ 0) ⊎ (0xC000 ≤ group)
   pub made : NodeDurable
   pub sound : IsNodeDurable made
   pub jobless : made.job ≡ None
@@ -172,6 +174,8 @@ pub record NewUpdater (m next : Mesh) : Type 0 where
   pub blob_id : plan.sending.id ≡ address * 2 ^ 48 + id
   pub small : id < 2 ^ 48
   pub range : IsInRange plan to
+  -- the first image of each receiver is updated
+  pub first : AllByRecursion (λ (receiver : ℕ × ℕ). receiver.1 ≡ 0) to
   pub sends : IsSending plan image
   pub added : next.updaters ≡ m.updaters ++ (address, record { moment = moment; updater = new_updater plan image to }) ∷ []
   pub nodes : SameNodes m next

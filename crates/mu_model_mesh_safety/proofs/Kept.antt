@@ -1,7 +1,8 @@
 -- What holds of each world of a run: each member has gone through a run of its own, with packets of the bag.
-use Rattle.std.proofs.Common.{◌≡◌, ℕ, ◌<◌, ◌*◌, ◌^◌, ◌+◌, List, [], ◌∷◌, ◌++◌, length, Option, Some, None, Bool, true, false, Contains}
+use Rattle.std.proofs.Common.{◌≡◌, ◌⊎◌, ℕ, ◌≤◌, ◌<◌, ◌*◌, ◌^◌, ◌+◌, List, [], ◌∷◌, ◌++◌, length, Option, Some, None, Bool, true, false, Contains}
 use Rattle.std.specs.List.{AllByRecursion}
 use Rattle.mu_model_image.specs.Meta.{Image, IsMeta}
+use Rattle.mu_model_wire.specs.Laws.{AreOctets}
 use Rattle.mu_model_wire.specs.Packet.{Packet}
 use Rattle.mu_model_node.specs.Events.{NodeEvent}
 use Rattle.mu_model_node.specs.Log.{LogEntry}
@@ -41,6 +42,8 @@ pub record NodeRun (bag : List Packet) (address : ℕ) (n : Member) : Type 0 whe
   pub jobless : made.job ≡ None
   pub metas : AllByRecursion (λ (image : Image). IsMeta image.meta) made.images
   pub first : n.first ≡ made.images
+  -- none, or a group's address, so no node's
+  pub group : (n.group ≡ 0) ⊎ (0xC000 ≤ n.group)
   pub state : n.state ≡ state_after (config_of address n) (restarted made) hs
   pub fits : AllByRecursion HappeningFits hs
   pub come : AreIn bag (come_in hs)
@@ -60,6 +63,8 @@ pub record UpdaterRun (bag : List Packet) (address : ℕ) (u : UpdaterMember) : 
   pub blob_id : plan.sending.id ≡ address * 2 ^ 48 + id
   pub small : id < 2 ^ 48
   pub range : IsInRange plan to
+  -- the first image of each receiver is updated
+  pub first : AllByRecursion (λ (receiver : ℕ × ℕ). receiver.1 ≡ 0) to
   pub sends : IsSending plan image
   pub state : u.updater ≡ updater_after (new_updater plan image to) run
   pub come : AreIn bag (updater_come_in run)
@@ -86,6 +91,8 @@ pub record IsPacket (m : Mesh) (p : Packet) : Type 0 where
   pub fits : PacketFits p
   -- a stranger offers nothing under a member's BLOB ID
   pub stranger : is_member m p.from ≡ false → (u : UpdateStart) → request_at p.payload ≡ Some (OfUpdate (StartUpdate u)) → is_member m (owner_of u.id) ≡ false
+  -- and says octets
+  pub octets : is_member m p.from ≡ false → (u : UpdateStart) → request_at p.payload ≡ Some (OfUpdate (StartUpdate u)) → AreOctets p.payload
 
 -- ---- addresses
 

@@ -14,3 +14,9 @@ pub mod KeepingDistributors
 pub mod KeepingGoes
 pub mod KeepingMembers
 pub mod Keeping
+pub mod Shown
+pub mod ShownDistributors
+pub mod ShownLaws
+pub mod ShownNodes
+pub mod ShownOctets
+pub mod ShownStarts
