@@ -1,5 +1,5 @@
 -- What each line but `settle` does in a world is a deed.
-use Rattle.std.proofs.Common.{◌≡◌, ℕ, ◌*◌, ◌<◌, ◌≤◌, List, [], ◌∷◌, ◌++◌, length, map, replicate, ◌-◌, Option, Some, None, true, false, cond, nat_le, nat_lt, zero, suc, refl, ap, subst, ◌∙◌, arith, slice_get, append-nil}
+use Rattle.std.proofs.Common.{◌≡◌, ℕ, ◌*◌, ◌<◌, ◌≤◌, List, [], ◌∷◌, ◌++◌, length, map, replicate, ◌-◌, Option, Some, None, true, false, cond, nat_le, nat_lt, zero, suc, refl, ap, subst, ◌∙◌, ◌⊎◌, ⊎_elim, inl, inr, arith, slice_get, append-nil}
 use Rattle.std.specs.Prelude.{◌||◌}
 use Rattle.std.specs.List.{AllByRecursion}
 use Rattle.std.proofs.lemmas.Bool.{ltb-false}
@@ -14,7 +14,7 @@ use Rattle.mu_model_node.specs.UpdateMessages.{UpdateStart, StartUpdate}
 use Rattle.mu_model_distributor.specs.DistEvents.{stocked}
 use Rattle.mu_model_distributor.specs.Receivers.{banks}
 use Rattle.mu_model_script.specs.Event.{Event, Node, Old, Pair, Updater as UpdaterLine, Distributor, Stock, Say, Deliver, Time, Cut, Tear as TearLine, Active, Phase, Settle, Rows, Packet as PacketLine}
-use Rattle.mu_model_script.specs.Ranges.{IsUnicast, IsContent, IsUpdater, IsNode, IsInRange as IsEventInRange}
+use Rattle.mu_model_script.specs.Ranges.{IsUnicast, IsGroup, IsContent, IsUpdater, IsNode, IsInRange as IsEventInRange}
 use Rattle.mu_model_script.specs.Tokens.{Content, Hex, Made}
 use Rattle.mu_model_script.specs.declared.BadWhy.TheVariants.{Token as BadToken, Member as BadMember, Premise}
 use Rattle.mu_model_updater.specs.Laws.{LinesAreInRange}
@@ -134,11 +134,12 @@ said m from to payload range free =
 nothing_sent : (m : Mesh) → m.transfers ++ replicate (length m.nodes.bag - length m.nodes.bag) None ≡ m.transfers
 nothing_sent m = ap (λ places. m.transfers ++ places) (pads_none (length m.nodes.bag)) ∙ append-nil m.transfers
 
-one_node : (m : Mesh) (address group : ℕ) (d : NodeDurable) → IsUnicast address → IsNew m address → IsNodeDurable d → d.job ≡ None → AllByRecursion (λ (image : Image). IsMeta image.meta) d.images
+one_node : (m : Mesh) (address group : ℕ) (d : NodeDurable) → (group ≡ 0) ⊎ IsGroup group → IsUnicast address → IsNew m address → IsNodeDurable d → d.job ≡ None → AllByRecursion (λ (image : Image). IsMeta image.meta) d.images
     → Deed m (of_nodes (in_order m address) (record { world = with_member (counted m.nodes) address (new_member group d); text = [] })).mesh
-one_node m address group d unicast new sound jobless metas = adds_node (record {
+one_node m address group d grouped unicast new sound jobless metas = adds_node (record {
   address = address;
   group = group;
+  no_address = ⊎_elim (λ none. inl none) (λ (some : IsGroup group). inr some.0) grouped;
   made = d;
   sound = sound;
   jobless = jobless;
@@ -229,7 +230,7 @@ module _ (fit : ImagesFit) (metadata : ImagesHaveMetadata) (made : MadeImageHasI
       → Deed m (of_nodes (in_order m address) (record { world = with_member (counted m.nodes) address (new_member group (node_of pages version content)); text = [] })).mesh
   node_line m address group pages version content range free =
       let f = first_none _ _ free in
-      one_node m address group (node_of pages version content) range.0 (new_at m address f.0) (node_sound pages version content range.2.0 range.2.1 range.4 f.1) refl
+      one_node m address group (node_of pages version content) range.1 range.0 (new_at m address f.0) (node_sound pages version content range.2.0 range.2.1 range.4 f.1) refl
       (meta_of_content version content range.3.1 range.4, tt)
 
   pair_line : (m : Mesh) (address group pages version : ℕ) (content : Content) (second_version : ℕ) (second : Content) → IsEventInRange (Pair address group pages version content second_version second)
@@ -238,7 +239,7 @@ module _ (fit : ImagesFit) (metadata : ImagesHaveMetadata) (made : MadeImageHasI
       let f = first_none _ _ free in
       let g = first_none _ _ f.1 in
       let r = range.0 in (
-        by_member (one_node m address group (pair_of pages version content second_version second) r.0 (new_at m address f.0)
+        by_member (one_node m address group (pair_of pages version content second_version second) r.1 r.0 (new_at m address f.0)
             (pair_sound pages version second_version content second r.2.0 r.2.1 r.4 range.2 g.0 g.1) refl
             (meta_of_content version content r.3.1 r.4, (meta_of_content second_version second range.1.1 range.2, tt))),
         tt,
@@ -290,6 +291,10 @@ module _ (fit : ImagesFit) (metadata : ImagesHaveMetadata) (made : MadeImageHasI
 
   -- ---- updaters
 
+  first_images : (receivers : List ℕ) → AllByRecursion (λ (receiver : ℕ × ℕ). receiver.1 ≡ 0) (map first_image receivers)
+  first_images [] = tt
+  first_images (receiver ∷ receivers) = (refl, first_images receivers)
+
   module _ (lines : LinesAreInRange) where
     updater_line : (m : Mesh) (line : ScriptLine) (content : Content) → line.content ≡ content_octets content → IsUpdater line.address line.group line.id line.ttl line.base line.mode line.log line.chunk line.version content line.receivers
         → IsNew m line.address → Deed m (with_new_updater m line.address (record { moment = 0; updater = updater_of line }))
@@ -320,6 +325,7 @@ module _ (fit : ImagesFit) (metadata : ImagesHaveMetadata) (made : MadeImageHasI
             content_least = some;
             content_most = few;
           });
+          first = first_images line.receivers;
           sends = record {
             mode_least = range.mode_in.0;
             mode_most = range.mode_in.1;

@@ -99,7 +99,7 @@ module _ (say : OctetsSayFit) where
         updaters_stay = same_places m.updaters;
         distributors_stay = same_places m.distributors;
       })
-      (record { fits = say p d.octets; stranger = λ none u asks. d.own u asks }, tt) k)
+      (record { fits = say p d.octets; stranger = λ none u asks. d.own u asks; octets = λ none u asks. d.octets }, tt) k)
     where
       stranger : (b : ℕ) → is_member m b ≡ true → b ≡ d.packet.from → ⊥
       stranger b there same =

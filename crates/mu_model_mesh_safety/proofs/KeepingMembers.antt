@@ -103,7 +103,7 @@ keeps_new_node m next d k =
     empty = k.early d.more.early
 
     begins : HasRun m.nodes.bag d.address made (log_at d.address m.nodes.log)
-    begins = rw (k.silent d.address (free_node m d.address k d.more.free), empty) (node_begins d.address d.group d.made d.sound d.jobless d.metas)
+    begins = rw (k.silent d.address (free_node m d.address k d.more.free), empty) (node_begins d.address d.group d.made d.no_address d.sound d.jobless d.metas)
 
 pub keeps_new_updater : (m next : Mesh) → NewUpdater m next → Kept m → Kept next
 keeps_new_updater m next d k =
@@ -143,7 +143,7 @@ keeps_new_updater m next d k =
     empty = k.early d.more.early
 
     begins : UpdaterRun m.nodes.bag d.address made
-    begins = rw empty (updater_begins d.address d.id d.plan d.image d.to d.moment d.from d.blob_id d.small d.range d.sends)
+    begins = rw empty (updater_begins d.address d.id d.plan d.image d.to d.moment d.from d.blob_id d.small d.range d.first d.sends)
 
 module _ (new_unused : NewIsUnused) where
   pub keeps_new_distributor : (m next : Mesh) → NewDistributor m next → Kept m → Kept next

@@ -1,5 +1,5 @@
 -- Each node goes on with its run.
-use Rattle.std.proofs.Common.{◌≡◌, ℕ, List, [], ◌∷◌, ◌++◌, Option, Some, None, true, false, cond, refl, sym, ap, ◌∙◌, append_assoc, append-nil, map}
+use Rattle.std.proofs.Common.{◌≡◌, ◌⊎◌, ◌≤◌, ℕ, List, [], ◌∷◌, ◌++◌, Option, Some, None, true, false, cond, refl, sym, ap, ◌∙◌, append_assoc, append-nil, map}
 use Rattle.std.specs.List.{AllByRecursion}
 use Rattle.mu_model_image.specs.Meta.{Image, IsMeta}
 use Rattle.mu_model_wire.specs.Packet.{Packet}
@@ -78,6 +78,7 @@ node_wider bag more address other n log apart from (r, is_log) = (
     jobless = r.jobless;
     metas = r.metas;
     first = r.first;
+    group = r.group;
     state = r.state;
     fits = r.fits;
     come = in_wider bag more _ r.come;
@@ -105,6 +106,7 @@ node_same bag address old new log l same (r, is_log) =
         jobless = r.jobless;
         metas = r.metas;
         first = l.first ∙ r.first;
+        group = rw l.group r.group;
         state = same ∙ (r.state ∙ ap (λ c. state_after c (restarted r.made) r.hs) at);
         fits = r.fits;
         come = r.come;
@@ -135,6 +137,7 @@ node_on bag address old new h log l next fits come (r, is_log) =
         jobless = r.jobless;
         metas = r.metas;
         first = l.first ∙ r.first;
+        group = rw l.group r.group;
         state = state ∙ ap (λ c. state_after c start hs) at;
         fits = all_append HappeningFits r.hs (h ∷ []) r.fits (fits, tt);
         come = come_on bag _ r.hs h r.come come;
@@ -143,8 +146,8 @@ node_on bag address old new h log l next fits come (r, is_log) =
       ap (λ es. es ++ logged old.state new.state) is_log ∙ (ap (λ es. log_after config start r.hs ++ es) steps ∙ (sym (log_more config start r.hs h) ∙ ap (λ c. log_after c start hs) at)),
     )
 
-pub node_begins : (address group : ℕ) (made : NodeDurable) → IsNodeDurable made → made.job ≡ None → AllByRecursion (λ (image : Image). IsMeta image.meta) made.images → HasRun [] address (new_member group made) []
-node_begins address group made sound jobless metas = (
+pub node_begins : (address group : ℕ) (made : NodeDurable) → (group ≡ 0) ⊎ (0xC000 ≤ group) → IsNodeDurable made → made.job ≡ None → AllByRecursion (λ (image : Image). IsMeta image.meta) made.images → HasRun [] address (new_member group made) []
+node_begins address group made no_address sound jobless metas = (
   record {
     made = made;
     hs = [];
@@ -152,6 +155,7 @@ node_begins address group made sound jobless metas = (
     jobless = jobless;
     metas = metas;
     first = refl;
+    group = no_address;
     state = refl;
     fits = tt;
     come = tt;

@@ -45,6 +45,7 @@ packets_same m next packets order are =
     (λ p is. record {
       fits = is.fits;
       stranger = λ none u asks. rw order (is.stranger (rw order at none) u asks);
+      octets = λ none u asks. is.octets (rw order at none) u asks;
     }) are
 
 -- what a member sends
@@ -54,6 +55,9 @@ own_packets m address packets member from fit =
     (λ p own fits. record {
       fits = fits;
       stranger = λ none u asks.
+          let there : is_member m p.from ≡ true = ap (is_member m) own ∙ member in
+          absurd cc;
+      octets = λ none u asks.
           let there : is_member m p.from ≡ true = ap (is_member m) own ∙ member in
           absurd cc;
     }) from fit

@@ -43,6 +43,7 @@ updater_wider bag more address other u apart from r = record {
   blob_id = r.blob_id;
   small = r.small;
   range = r.range;
+  first = r.first;
   sends = r.sends;
   state = r.state;
   come = in_wider bag more _ r.come;
@@ -72,6 +73,7 @@ updater_on bag address old new event now next come r =
       blob_id = r.blob_id;
       small = r.small;
       range = r.range;
+      first = r.first;
       sends = r.sends;
       state = next ∙ (ap (λ u. (updater_step u event now).next) r.state ∙ sym (after_more start r.run (event, now)));
       come = in_wider bag _ _ (rw (come_more r.run (event, now)) (all_append (λ (p : Packet). Contains bag p) (come_in r.run) (come_by event) r.come come));
@@ -79,8 +81,8 @@ updater_on bag address old new event now next come r =
     }
 
 pub updater_begins : (address id : ℕ) (plan : Plan) (image : Image) (to : List (ℕ × ℕ)) (moment : ℕ) → plan.sending.from ≡ address → plan.sending.id ≡ address * 2 ^ 48 + id → id < 2 ^ 48
-    → IsInRange plan to → IsSending plan image → UpdaterRun [] address (record { moment = moment; updater = new_updater plan image to })
-updater_begins address id plan image to moment from blob_id small range sends = record {
+    → IsInRange plan to → AllByRecursion (λ (receiver : ℕ × ℕ). receiver.1 ≡ 0) to → IsSending plan image → UpdaterRun [] address (record { moment = moment; updater = new_updater plan image to })
+updater_begins address id plan image to moment from blob_id small range first sends = record {
   id = id;
   plan = plan;
   image = image;
@@ -90,6 +92,7 @@ updater_begins address id plan image to moment from blob_id small range sends = 
   blob_id = blob_id;
   small = small;
   range = range;
+  first = first;
   sends = sends;
   state = refl;
   come = tt;
