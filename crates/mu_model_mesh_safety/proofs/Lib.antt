@@ -19,4 +19,6 @@ pub mod ShownDistributors
 pub mod ShownLaws
 pub mod ShownNodes
 pub mod ShownOctets
+pub mod ShownSafe
 pub mod ShownStarts
+pub mod ShownUpdaters

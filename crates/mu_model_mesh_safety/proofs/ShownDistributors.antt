@@ -112,6 +112,7 @@ to_address config p no_address is small = by_address (p.to == config.address) re
         let same : p.to ≡ config.group = eqb-true p.to config.group e in
         absurd (omega (arith, same, above, small))
     by_group false e (inr above) f = grind arith
+
     by_address : (b : Bool) → (p.to == config.address) ≡ b → (b || (not (config.group == 0) && (p.to == config.group))) ≡ true → p.to ≡ config.address
     by_address true e f = eqb-true p.to config.address e
     by_address false e f = by_group (p.to == config.group) refl no_address f

@@ -145,6 +145,7 @@ module _ (taken : ReachedWasTaken) (asked : AskedBefore) (rise : VersionsRise) (
     where
       known : IsMeta offer
       known = took_meta r metas id index offer took
+
       by_image : ImageIsSafe r.made.images (log_of r) index safe.0 → Became (log_of r) id index offer
       by_image (inl first) =
           let range : IsMeta safe.0.meta = of_get (λ (image : Image). IsMeta image.meta) r.made.images index safe.0 r.metas first in

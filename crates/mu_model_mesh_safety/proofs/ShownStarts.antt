@@ -79,12 +79,15 @@ module _ (fit : NodesSendFit) (read : ReadStartsAreOffered) (say : PacketsSaySta
       by_distributor : is_member m p.from ≡ true → node_at m p.from ≡ None → updater_at m p.from ≡ None → (d : Option DistributorMember) → distributor_at m p.from ≡ d → Whose m k p u
       by_distributor e f g (Some d) at = of_distributor d at (start_of m.nodes.bag p.from d (k.apart.unicast p.from e) (k.distributors p.from d at) p u has refl s)
       by_distributor e f g None at = absurd (k.apart.some p.from e f g at)
+
       by_updater : is_member m p.from ≡ true → node_at m p.from ≡ None → (v : Option UpdaterMember) → updater_at m p.from ≡ v → Whose m k p u
       by_updater e f (Some v) at = of_updater v at (offer_of m.nodes.bag p.from v (k.updaters p.from v at) p u has refl s)
       by_updater e f None at = by_distributor e f at (distributor_at m p.from) refl
+
       by_node : is_member m p.from ≡ true → (n : Option Member) → node_at m p.from ≡ n → Whose m k p u
       by_node e (Some n) at = absurd ((answer_of m.nodes.bag p.from n (k.nodes p.from n at).0 p has refl).offers_nothing.no_start u s)
       by_node e None at = by_updater e at (updater_at m p.from) refl
+
       by_member : (b : Bool) → is_member m p.from ≡ b → Whose m k p u
       by_member true e = by_node e (node_at m p.from) refl
       by_member false e = of_stranger e
