@@ -22,3 +22,4 @@ pub mod ShownOctets
 pub mod ShownSafe
 pub mod ShownStarts
 pub mod ShownUpdaters
+pub mod Every
