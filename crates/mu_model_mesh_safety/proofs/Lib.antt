@@ -3,8 +3,10 @@ pub mod Kept
 pub mod Shown
 pub mod ShownDistributors
 pub mod ShownLaws
+pub mod ShownLists
 pub mod ShownNodes
 pub mod ShownOctets
 pub mod ShownSafe
+pub mod ShownSends
 pub mod ShownStarts
 pub mod ShownUpdaters

@@ -139,7 +139,7 @@ module _ (laws : MemberLaws) (m : Mesh) (k : Kept m) where
     small_counter : (kept_of run_of.run).counter < 2 ^ 48
     small_counter = (laws.order run_of.run.address run_of.run.durable run_of.run.fresh run_of.run.happenings run_of.is.durable run_of.is.fresh run_of.is.happenings).sound.durable.counter
 
-    owner_at : owner_of present_id ≡ x
+    pub owner_at : owner_of present_id ≡ x
     owner_at = owner_is run_of.run.address (kept_of run_of.run).counter present_id refl small_counter ∙ run_of.own
 
     -- an Update Start of a BLOB ID of its own is one of its own
