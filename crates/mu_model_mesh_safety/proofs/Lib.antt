@@ -1,6 +1,7 @@
 pub mod Deeds
 pub mod Kept
 pub mod Shown
+pub mod ShownAir
 pub mod ShownDistributors
 pub mod ShownLaws
 pub mod ShownLists

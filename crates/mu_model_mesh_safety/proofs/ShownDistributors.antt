@@ -79,7 +79,7 @@ are_both {a = a} {n = n} nr dr = record {
 pub are_new : {bag : List Packet} {a x : ℕ} {n : Member} {d : DistributorMember} (nr : NodeRun bag a n) (dr : DistributorRun bag x d) → AreNew (both_of nr dr)
 are_new nr dr = (dr.idle.receivers, nr.jobless)
 
-in_log : (d : NodeDurable) (log : List LogEntry) (id phase : ℕ) → d.job ≡ None → WasReached d log id phase → InOrder (Reached id phase ∷ []) log
+pub in_log : (d : NodeDurable) (log : List LogEntry) (id phase : ℕ) → d.job ≡ None → WasReached d log id phase → InOrder (Reached id phase ∷ []) log
 in_log d log id phase e (inl h) = h
 in_log d log id phase e (inr h) =
     let none : Some h.0 ≡ None = sym h.1 ∙ e in
