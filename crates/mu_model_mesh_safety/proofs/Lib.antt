@@ -15,11 +15,14 @@ pub mod KeepingGoes
 pub mod KeepingMembers
 pub mod Keeping
 pub mod Shown
+pub mod ShownAir
 pub mod ShownDistributors
 pub mod ShownLaws
+pub mod ShownLists
 pub mod ShownNodes
 pub mod ShownOctets
 pub mod ShownSafe
+pub mod ShownSends
 pub mod ShownStarts
 pub mod ShownUpdaters
 pub mod Every

@@ -79,7 +79,7 @@ are_both {a = a} {n = n} nr dr = record {
 pub are_new : {bag : List Packet} {a x : ℕ} {n : Member} {d : DistributorMember} (nr : NodeRun bag a n) (dr : DistributorRun bag x d) → AreNew (both_of nr dr)
 are_new nr dr = (dr.idle.receivers, nr.jobless)
 
-in_log : (d : NodeDurable) (log : List LogEntry) (id phase : ℕ) → d.job ≡ None → WasReached d log id phase → InOrder (Reached id phase ∷ []) log
+pub in_log : (d : NodeDurable) (log : List LogEntry) (id phase : ℕ) → d.job ≡ None → WasReached d log id phase → InOrder (Reached id phase ∷ []) log
 in_log d log id phase e (inl h) = h
 in_log d log id phase e (inr h) =
     let none : Some h.0 ≡ None = sym h.1 ∙ e in
@@ -139,7 +139,7 @@ module _ (laws : MemberLaws) (m : Mesh) (k : Kept m) where
     small_counter : (kept_of run_of.run).counter < 2 ^ 48
     small_counter = (laws.order run_of.run.address run_of.run.durable run_of.run.fresh run_of.run.happenings run_of.is.durable run_of.is.fresh run_of.is.happenings).sound.durable.counter
 
-    owner_at : owner_of present_id ≡ x
+    pub owner_at : owner_of present_id ≡ x
     owner_at = owner_is run_of.run.address (kept_of run_of.run).counter present_id refl small_counter ∙ run_of.own
 
     -- an Update Start of a BLOB ID of its own is one of its own

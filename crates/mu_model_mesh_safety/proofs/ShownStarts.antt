@@ -93,7 +93,7 @@ module _ (fit : NodesSendFit) (read : ReadStartsAreOffered) (say : PacketsSaySta
       by_member false e = of_stranger e
 
   -- one with a member's BLOB ID is that member's
-  sender : (m : Mesh) (k : Kept m) (p : Packet) (u : UpdateStart) → Contains m.nodes.bag p → Starts p u → is_member m (owner_of u.id) ≡ true → p.from ≡ owner_of u.id
+  pub sender : (m : Mesh) (k : Kept m) (p : Packet) (u : UpdateStart) → Contains m.nodes.bag p → Starts p u → is_member m (owner_of u.id) ≡ true → p.from ≡ owner_of u.id
   sender m k p u has s member =
       elim (whose m k p u has s) [
         | of_stranger e ↦ (let no : is_member m (owner_of u.id) ≡ false = (of_all (IsPacket m) m.nodes.bag p k.packets has).stranger e u s in absurd cc)

@@ -54,7 +54,7 @@ all_map : {X Y : Type 0} (P : Y → Type 0) (f : X → Y) (xs : List X) → AllB
 all_map P f [] h = tt
 all_map P f (x ∷ xs) h = (h.0, all_map P f xs h.1)
 
-first_index : (to : List (ℕ × ℕ)) (address index : ℕ) → AllByRecursion (λ (receiver : ℕ × ℕ). receiver.1 ≡ 0) to → HasReceiver to address index → index ≡ 0
+pub first_index : (to : List (ℕ × ℕ)) (address index : ℕ) → AllByRecursion (λ (receiver : ℕ × ℕ). receiver.1 ≡ 0) to → HasReceiver to address index → index ≡ 0
 first_index [] address index all h = absurd h
 first_index (receiver ∷ to) address index all (inl h) = sym h.1 ∙ all.0
 first_index (receiver ∷ to) address index all (inr h) = first_index to address index all.1 h
