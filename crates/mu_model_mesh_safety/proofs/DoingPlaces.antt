@@ -1,5 +1,5 @@
 -- Lists and members by address, for the outcomes of lines.
-use Rattle.std.proofs.Common.{◌≡◌, ℕ, ◌<◌, ◌-◌, ◌+◌, List, [], ◌∷◌, ◌++◌, length, map, replicate, Option, Some, None, true, false, cond, nat_eq, zero, suc, refl, sym, ap, subst, ◌∙◌, ◌⊎◌, inl, inr, arith, Contains, slice_get, length-append}
+use Rattle.std.proofs.Common.{◌≡◌, ℕ, ◌<◌, ◌-◌, List, [], ◌∷◌, ◌++◌, length, map, replicate, Option, Some, None, true, false, cond, nat_eq, zero, suc, refl, sym, ap, subst, ◌∙◌, ◌⊎◌, inl, inr, arith, Contains, slice_get, length-append}
 use Rattle.std.specs.List.{AllByRecursion}
 use Rattle.std.specs.Map.{lookup, set_value}
 use Rattle.std.proofs.lemmas.Bool.{eqb-true}

@@ -1,19 +1,19 @@
 -- What the invariant says of what is on the air and in the logs.
-use Rattle.std.proofs.Common.{◌≡◌, ℕ, zero, suc, ◌<◌, ◌+◌, List, [], ◌∷◌, ◌++◌, length, Option, Some, None, refl, sym, ap, subst, ◌∙◌, inl, inr, Contains, arith, ⊎_elim}
+use Rattle.std.proofs.Common.{◌≡◌, ℕ, zero, suc, ◌+◌, List, [], ◌∷◌, ◌++◌, Option, Some, None, refl, sym, ap, subst, ◌∙◌, Contains, arith, ⊎_elim}
 use Rattle.std.specs.List.{AllByRecursion}
 use Rattle.mu_model_image.specs.Meta.{Image}
 use Rattle.mu_model_wire.specs.Packet.{Packet}
-use Rattle.mu_model_node.specs.Log.{LogEntry, Reached, logged}
+use Rattle.mu_model_node.specs.Log.{LogEntry, Reached}
 use Rattle.mu_model_node.specs.NodeState.{Job, NodeDurable, NodeState, restarted}
-use Rattle.mu_model_node.specs.Safe.{Happening, InOrder, ImageIsSafe, found, happened, state_after, log_after}
+use Rattle.mu_model_node.specs.Safe.{InOrder, ImageIsSafe, found, log_after}
 use Rattle.mu_model_node.specs.UpdateMessages.{ShownJob, InformationStatus, UpdateStatus}
 use Rattle.mu_model_client.specs.Answers.{Answer, FromUpdate, answer_at}
-use Rattle.mu_model_fates.specs.Laws.{IsLogged, VersionsOf, NextOf, JobIsLogged, JobGoesOn, VersionsRise as VersionsRiseInRuns}
+use Rattle.mu_model_fates.specs.Laws.{IsLogged, VersionsOf, JobIsLogged, JobGoesOn, VersionsRise as VersionsRiseInRuns}
 use Rattle.mu_model_told.specs.Laws.{HasNumbers}
 use Rattle.mu_model_told.specs.Reached.{WasReached, IdsAreSafe, IsReached, SentIsReached, sent_in}
 use Rattle.mu_model_world.specs.World.{Member, config_of, log_at}
 use Rattle.mu_model_mesh.specs.Mesh.{Mesh, node_at}
-use Rattle.mu_model_mesh_safety.specs.Facts.{OfNode, StatusesAreReached, VersionsRise, AreOfImages, ShownImagesWereHad, JobsAreLogged, VerifiedJobsGoOn}
+use Rattle.mu_model_mesh_safety.specs.Facts.{StatusesAreReached, VersionsRise, AreOfImages, ShownImagesWereHad, JobsAreLogged, VerifiedJobsGoOn}
 use Rattle.mu_model_mesh_safety.proofs.DoingPlaces.{of_all}
 use Rattle.mu_model_mesh_safety.proofs.Kept.{NodeRun, IsLogOf, Kept}
 

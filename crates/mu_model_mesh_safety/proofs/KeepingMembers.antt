@@ -1,5 +1,5 @@
 -- Member lines, and what changes nothing, keep the invariant.
-use Rattle.std.proofs.Common.{◌≡◌, ℕ, arith, ◌+◌, [], ◌∷◌, ◌++◌, None, false, nat_eq, refl, sym, subst, inl, inr}
+use Rattle.std.proofs.Common.{◌≡◌, ℕ, arith, [], ◌∷◌, ◌++◌, None, false, nat_eq, refl, sym, subst, inl, inr}
 use Rattle.std.specs.List.{AllByRecursion}
 use Rattle.std.specs.Map.{set_value}
 use Rattle.mu_model_distributor.specs.DistEvents.{new_distributor, restarted}

@@ -1,97 +1,50 @@
--- Facts on the air: what the packets in the bag say of members is so.
-use Rattle.std.proofs.Common.{◌≡◌, ◌⊎◌, ℕ, true, List, [], ◌∷◌, ◌++◌, refl, sym, ap, subst, ◌∙◌, inl, inr, Option, Some, None, Contains}
-use Rattle.mu_model_image.specs.Meta.{Image, firmware_id, own_company}
+-- Update Starts in the bag with one BLOB ID of a member are of one offer.
+use Rattle.std.proofs.Common.{◌≡◌, ℕ, ◌≤◌, ◌*◌, ◌^◌, true, List, [], ◌∷◌, refl, sym, ap, subst, ◌∙◌, arith, inl, inr, Option, Some, None, Contains}
+use Rattle.std.specs.List.{AllByRecursion}
 use Rattle.mu_model_wire.specs.Packet.{Packet}
-use Rattle.mu_model_node.specs.Log.{LogEntry, Reached}
-use Rattle.mu_model_node.specs.NodeState.{Job, NodeState, restarted}
-use Rattle.mu_model_node.specs.Safe.{InOrder, ImageIsSafe, found}
-use Rattle.mu_model_node.specs.UpdateMessages.{ShownJob, UpdateStart, InformationStatus, UpdateStatus}
-use Rattle.mu_model_client.specs.Answers.{Answer, FromUpdate, answer_at}
-use Rattle.mu_model_fates.specs.Laws.{JobIsLogged, IsLogged, VersionsOf}
-use Rattle.mu_model_offers.specs.Laws.{HasStart, sent_of}
-use Rattle.mu_model_told.specs.Reached.{WasReached, IdIsSafe, IsReached, SentIsReached, sent_in}
+use Rattle.mu_model_node.specs.FlashWork.{passed_by}
+use Rattle.mu_model_node.specs.UpdateMessages.{UpdateStart}
+use Rattle.mu_model_node.specs.declared.FlashWork.{FlashWork}
+use Rattle.mu_model_node.specs.declared.FlashWork.TheVariants.{Untouched, Recorded, Begun, PutBlock}
+use Rattle.mu_model_distributor.specs.DistEvents.{dist_step}
+use Rattle.mu_model_distributor.specs.DistMessages.{Sent}
+use Rattle.mu_model_distributor.specs.DistState.{DistDurable, DistState, transfer_id}
+use Rattle.mu_model_distributor_laws.specs.Planned.{CountersRise}
+use Rattle.mu_model_distributor_laws.specs.RunLaws.{IsBehind, StartIsBehind, NoNumberIsLost}
+use Rattle.mu_model_offers.specs.Laws.{HasStart, sent_of, end_of}
 use Rattle.mu_model_updater.specs.Laws.{IsOffered}
 use Rattle.mu_model_world.specs.Judged.{owner_of}
-use Rattle.mu_model_world.specs.World.{Member, config_of, log_at}
 use Rattle.mu_model_mesh.specs.Mesh.{UpdaterMember, DistributorMember, Mesh, is_member, node_at, updater_at, distributor_at}
-use Rattle.mu_model_mesh_safety.proofs.Kept.{NodeRun, UpdaterRun, DistributorRun, Kept}
-use Rattle.mu_model_mesh_safety.proofs.Shown.{of_all, Starts}
-use Rattle.mu_model_mesh_safety.proofs.ShownDistributors.{in_log}
+use Rattle.mu_model_world.specs.World.{Member}
+use Rattle.mu_model_mesh_safety.specs.Facts.{IsStart, StartsAreOwn, StartsAreOfOneOffer, CountersAreAhead}
+use Rattle.mu_model_mesh_safety.proofs.Kept.{UpdaterRun, DistributorRun, Kept}
+use Rattle.mu_model_mesh_safety.proofs.Shown.{all_of, Starts}
 use Rattle.mu_model_mesh_safety.proofs.ShownLaws.{MemberLaws}
-use Rattle.mu_model_mesh_safety.proofs.ShownNodes.{log_of, state_of}
-use Rattle.mu_model_mesh_safety.proofs.ShownStarts.{has_no_job, answer_of, sender, updater_start, distributor_start}
+use Rattle.mu_model_mesh_safety.proofs.ShownSafe.{same_end}
+use Rattle.mu_model_mesh_safety.proofs.ShownStarts.{answer_of, sender, updater_start, distributor_start}
 use Rattle.mu_model_mesh_safety.proofs.ShownUpdaters.{first_index}
 
--- ---- what is said
-
--- each Update Status of a node names a phase that the node's log has reached
-abbrev pub StatusesAreReached : Mesh → Type 0
-StatusesAreReached m =
-    (a : ℕ) (n : Member) → node_at m a ≡ Some n → (p : Packet) → Contains m.nodes.bag p → p.from ≡ a
-    → (status phase : ℕ) (job : ShownJob) → answer_at p.payload ≡ Some (FromUpdate (UpdateStatus status phase (Some job)))
-    → InOrder (Reached job.id phase ∷ []) (log_at a m.nodes.log)
-
--- the first Firmware ID of each Information Status of a node is that of its first image of that index, or of one that came by an update
-abbrev pub ImagesShownAreSafe : Mesh → Type 0
-ImagesShownAreSafe m =
-    (a : ℕ) (n : Member) → node_at m a ≡ Some n → (p : Packet) → Contains m.nodes.bag p → p.from ≡ a
-    → (count first : ℕ) (fwid : List ℕ) (more : List (List ℕ)) → answer_at p.payload ≡ Some (FromUpdate (InformationStatus count first (fwid ∷ more)))
-    → (image : Image) × (fwid ≡ firmware_id own_company image.meta) × ImageIsSafe n.first (log_at a m.nodes.log) first image
-
 -- Update Starts with one BLOB ID of a member offer one image, and to each destination one index
-abbrev pub StartsAgreeIn : Mesh → Type 0
+abbrev StartsAgreeIn : Mesh → Type 0
 StartsAgreeIn m =
     (p q : Packet) (u v : UpdateStart) → Contains m.nodes.bag p → Contains m.nodes.bag q → Starts p u → Starts q v → u.id ≡ v.id → is_member m (owner_of u.id) ≡ true
     → (u.metadata ≡ v.metadata) × (p.to ≡ q.to → u.index ≡ v.index)
 
--- ---- what is logged
+-- ---- numbers
 
--- the versions of each node rise
-abbrev pub VersionsRiseIn : Mesh → Type 0
-VersionsRiseIn m = (a : ℕ) (n : Member) → node_at m a ≡ Some n → VersionsOf n.first (log_at a m.nodes.log) n.state.durable.images
+-- what is sent is behind the counter
+start_behind : (address number : ℕ) (sends : List (ℕ × Sent)) (to : ℕ) (u : UpdateStart) → AllByRecursion (StartIsBehind address number) sends → HasStart sends to u → IsBehind address number u.id
+start_behind address number [] to u all h = absurd h
+start_behind address number ((at, sent) ∷ sends) to u all (inl h) = subst (λ (s : Sent). StartIsBehind address number (at, s)) h.1 all.0
+start_behind address number ((at, sent) ∷ sends) to u all (inr h) = start_behind address number sends to u all.1 h
 
--- each job of a node was taken by the last Took of its log
-abbrev pub JobsAreLogged : Mesh → Type 0
-JobsAreLogged m = (a : ℕ) (n : Member) (j : Job) → node_at m a ≡ Some n → n.state.durable.job ≡ Some j → IsLogged (log_at a m.nodes.log) j
+passed_all : (P : DistDurable → Type 0) (old new : DistDurable) (work : FlashWork) → P old → P new → AllByRecursion P (passed_by old new work)
+passed_all P old new Untouched h k = (h, tt)
+passed_all P old new (Recorded long) h k = (h, (k, tt))
+passed_all P old new (Begun long) h k = (h, (k, tt))
+passed_all P old new (PutBlock pages) h k = (h, (k, tt))
 
 module _ (laws : MemberLaws) (m : Mesh) (k : Kept m) where
-  told_of : SentIsReached → (a : ℕ) (n : Member) (r : NodeRun m.nodes.bag a n) (p : Packet) → Contains m.nodes.bag p → p.from ≡ a → IsReached r.made (log_of r) (answer_at p.payload)
-  told_of told a n r p has from =
-      let sent : List Packet = sent_in (config_of a n) (restarted r.made) r.hs in
-      of_all (λ (q : Packet). IsReached r.made (log_of r) (answer_at q.payload)) sent p (told (config_of a n) r.made r.hs r.sound (has_no_job r) r.fits)
-      (of_all (λ (q : Packet). q.from ≡ a → Contains sent q) m.nodes.bag p r.sent has from)
-
-  pub statuses_reached : SentIsReached → StatusesAreReached m
-  statuses_reached told a n at p has from status phase job says =
-      let known = k.nodes a n at in
-      let r : NodeRun m.nodes.bag a n = known.0 in
-      let was : WasReached r.made (log_of r) job.id phase = subst (IsReached r.made (log_of r)) says (told_of told a n r p has from) in
-      subst (InOrder (Reached job.id phase ∷ [])) (sym known.1) (in_log r.made (log_of r) job.id phase r.jobless was)
-
-  pub images_shown : SentIsReached → ImagesShownAreSafe m
-  images_shown told a n at p has from count first fwid more says =
-      let known = k.nodes a n at in
-      let r : NodeRun m.nodes.bag a n = known.0 in
-      let safe : IdIsSafe r.made (log_of r) first fwid = subst (IsReached r.made (log_of r)) says (told_of told a n r p has from) in
-      let own : ImageIsSafe r.made.images (log_of r) first safe.0 = subst (λ job. ImageIsSafe r.made.images (found job ++ log_of r) first safe.0) r.jobless safe.2 in
-      let logs : ImageIsSafe r.made.images (log_at a m.nodes.log) first safe.0 = subst (λ (l : List LogEntry). ImageIsSafe r.made.images l first safe.0) (sym known.1) own in
-      (safe.0, safe.1, subst (λ (images : List Image). ImageIsSafe images (log_at a m.nodes.log) first safe.0) (sym r.first) logs)
-
-  pub versions_rise : VersionsRiseIn m
-  versions_rise a n at =
-      let known = k.nodes a n at in
-      let r : NodeRun m.nodes.bag a n = known.0 in
-      let own : VersionsOf r.made.images (log_of r) (state_of r).durable.images = laws.rise (config_of a n) r.made r.hs r.jobless in
-      let logs : VersionsOf r.made.images (log_at a m.nodes.log) (state_of r).durable.images = subst (λ (l : List LogEntry). VersionsOf r.made.images l (state_of r).durable.images) (sym known.1) own in
-      let states : VersionsOf r.made.images (log_at a m.nodes.log) n.state.durable.images = subst (λ (s : NodeState). VersionsOf r.made.images (log_at a m.nodes.log) s.durable.images) (sym r.state) logs in
-      subst (λ (images : List Image). VersionsOf images (log_at a m.nodes.log) n.state.durable.images) (sym r.first) states
-
-  pub jobs_logged : JobIsLogged → JobsAreLogged m
-  jobs_logged law a n j at is =
-      let known = k.nodes a n at in
-      let r : NodeRun m.nodes.bag a n = known.0 in
-      subst (λ (l : List LogEntry). IsLogged l j) (sym known.1) (law (config_of a n) r.made r.hs r.jobless j (ap (λ (s : NodeState). s.durable.job) (sym r.state) ∙ is))
-
   pub starts_agree : StartsAgreeIn m
   starts_agree p q u v hp hq sp sq same member = by_node (node_at m (owner_of u.id)) refl
     where
@@ -118,3 +71,31 @@ module _ (laws : MemberLaws) (m : Mesh) (k : Kept m) where
       by_node (Some n) at =
           absurd ((answer_of laws.fit laws.read laws.say laws.own m.nodes.bag (owner_of u.id) n (k.nodes (owner_of u.id) n at).0 p hp (sender laws.fit laws.read laws.say laws.own m k p u hp sp member)).offers_nothing.no_start u sp)
       by_node None at = by_updater at (updater_at m (owner_of u.id)) refl
+
+  -- ---- the facts
+
+  pub starts_are_own : StartsAreOwn m
+  starts_are_own = all_of _ m.nodes.bag (λ p has u s. sender laws.fit laws.read laws.say laws.own m k p u has s.asks s.owned)
+
+  pub starts_are_of_one_offer : StartsAreOfOneOffer m
+  starts_are_of_one_offer = all_of _ m.nodes.bag (λ p has. all_of _ m.nodes.bag (λ q there u v s t same. starts_agree p q u v has there s.asks t.asks same s.owned))
+
+  counted : NoNumberIsLost → (address : ℕ) (d : DistributorMember) (at : distributor_at m address ≡ Some d) (p : Packet) (u : UpdateStart) → Contains m.nodes.bag p → IsStart m p u → owner_of u.id ≡ address → u.id ≤ transfer_id address d.state.durable
+  counted lost address d at p u has s own =
+      let r : DistributorRun m.nodes.bag address d = k.distributors address d at in
+      let start : HasStart (sent_of r.run) p.to u = distributor_start laws.fit laws.read laws.say laws.own m k address d at p u has s.asks own in
+      let all = lost r.run.address r.run.durable r.run.fresh r.run.happenings r.is.durable r.is.fresh r.is.happenings in
+      let behind : IsBehind r.run.address (end_of r.run).durable.counter u.id = start_behind r.run.address _ (sent_of r.run) p.to u all start in
+      let id = behind.is in
+      let below = behind.below in
+      let counter : (end_of r.run).durable.counter ≡ d.state.durable.counter = ap (λ (t : DistState). t.durable.counter) (same_end r) in
+      let is : r.run.address * 2 ^ 48 ≡ address * 2 ^ 48 = ap (λ (a : ℕ). a * 2 ^ 48) r.own in
+      omega (arith, id, below, counter, is)
+
+  pub counters_are_ahead : NoNumberIsLost → CountersRise → CountersAreAhead m
+  counters_are_ahead lost rise address d at event now =
+      all_of _ m.nodes.bag (λ p has u s own.
+      let old : u.id ≤ transfer_id address d.state.durable = counted lost address d at p u has s own in
+      let more = rise address d.state event now in
+      passed_all (λ (left : DistDurable). u.id ≤ transfer_id address left) d.state.durable (dist_step address d.state event now).next.durable (dist_step address d.state event now).work
+      old (omega (arith, old, more)))

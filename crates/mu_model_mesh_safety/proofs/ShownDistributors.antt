@@ -1,7 +1,6 @@
 -- What a distributor shows of a node, and why.
-use Rattle.std.proofs.Common.{arith, ◌≡◌, ◌⊎◌, ℕ, ◌<◌, ◌≤◌, ◌==◌, ◌^◌, ◌+◌, ◌*◌, Bool, true, false, List, [], ◌∷◌, ◌++◌, refl, sym, ap, subst, ◌∙◌, inl, inr, Option, Some, None, Contains}
+use Rattle.std.proofs.Common.{arith, ◌≡◌, ◌⊎◌, ℕ, ◌<◌, ◌≤◌, ◌==◌, ◌^◌, Bool, true, false, List, [], ◌∷◌, refl, sym, ap, subst, ◌∙◌, inl, inr, Some, None, Contains}
 use Rattle.std.proofs.lemmas.Bool.{eqb-true, eq-eqb}
-use Rattle.std.specs.List.{AllByRecursion}
 use Rattle.std.specs.Prelude.{IsTrue, ◌&&◌, ◌||◌, not}
 use Rattle.mu_model_image.specs.declared.Meta.{Meta}
 use Rattle.mu_model_image.specs.Meta.{meta_octets, meta_from}
@@ -12,12 +11,12 @@ use Rattle.mu_model_node.specs.Log.{LogEntry, Reached}
 use Rattle.mu_model_node.specs.NodeState.{NodeDurable, restarted, is_addressee}
 use Rattle.mu_model_node.specs.Safe.{Happening, Done, CutPower, Torn, InOrder}
 use Rattle.mu_model_node.specs.UpdateMessages.{UpdateStart}
-use Rattle.mu_model_client.specs.Rows.{Row, apply_success, phase_unknown}
+use Rattle.mu_model_client.specs.Rows.{phase_unknown}
 use Rattle.mu_model_distributor.specs.DistState.{Receiver, transfer_id}
 use Rattle.mu_model_distributor_laws.specs.RowsTold.{Heard, HasFound}
 use Rattle.mu_model_fates.specs.Laws.{come_in}
 use Rattle.mu_model_listed.specs.Laws.{Both, AreBoth, HasPayload, ComesFrom, AreNew, WasOffered, RowIsReached, verdict, found, reached, active, active_since, IsShownTruly, ruled, logged, updated, come_in as listed_come_in}
-use Rattle.mu_model_offers.specs.Laws.{HasStart, sent_of, kept_of, IsOwnStart, IsUnheard}
+use Rattle.mu_model_offers.specs.Laws.{HasStart, sent_of, kept_of, IsUnheard}
 use Rattle.mu_model_told.specs.Reached.{WasReached, sent_in}
 use Rattle.mu_model_world.specs.Judged.{owner_of}
 use Rattle.mu_model_world.specs.World.{Member, config_of}

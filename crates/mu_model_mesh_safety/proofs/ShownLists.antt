@@ -15,7 +15,7 @@ use Rattle.mu_model_node.specs.Log.{LogEntry, logged}
 use Rattle.mu_model_node.specs.Safe.{Happening, Done, CutPower, Torn}
 use Rattle.mu_model_client.specs.Rows.{Row}
 use Rattle.mu_model_distributor.specs.DistEvents.{dist_step}
-use Rattle.mu_model_distributor.specs.DistState.{Receiver, DistState, transfer_id, receiver_of}
+use Rattle.mu_model_distributor.specs.DistState.{DistState, transfer_id, receiver_of}
 use Rattle.mu_model_distributor.specs.Runs.{happened as dist_happened}
 use Rattle.mu_model_distributor.specs.Sound.{IsDistState}
 use Rattle.mu_model_distributor_laws.specs.Laws.{EventFits}
@@ -27,14 +27,14 @@ use Rattle.mu_model_offers.specs.Packets.{packets_by}
 use Rattle.mu_model_updater.specs.Laws.{SaysNothing}
 use Rattle.mu_model_updater.specs.Updater.{Updater, new_updater, updater_step, updater_after, sent_in}
 use Rattle.mu_model_world.specs.World.{Member, Logged, log_at, logged_at}
-use Rattle.mu_model_mesh.specs.Mesh.{UpdaterMember, DistributorMember, Mesh, new_mesh, node_at, distributor_at}
+use Rattle.mu_model_mesh.specs.Mesh.{DistributorMember, Mesh, new_mesh, node_at, distributor_at}
 use Rattle.mu_model_mesh_safety.specs.Safe.{IsShown, ListsAreTrue}
-use Rattle.mu_model_mesh_safety.proofs.Deeds.{AreIn, SameNodes, SameAir, MoreAir, IsStill, Says, NodeGoes, UpdaterGoes, DistributorGoes, NewNode, NewUpdater, NewDistributor, Stocks, Deed, still, says, node_goes, updater_goes, distributor_goes, adds_node, adds_updater, adds_distributor, stocks}
+use Rattle.mu_model_mesh_safety.proofs.Deeds.{AreIn, SameNodes, SameAir, MoreAir, IsStill, NodeGoes, UpdaterGoes, DistributorGoes, Deed, still, says, node_goes, updater_goes, distributor_goes, adds_node, adds_updater, adds_distributor, stocks}
 use Rattle.mu_model_mesh_safety.proofs.Kept.{NodeRun, UpdaterRun, DistributorRun, IsPacket, Kept}
 use Rattle.mu_model_mesh_safety.proofs.Shown.{of_all, all_of, shown_more}
 use Rattle.mu_model_mesh_safety.proofs.ShownDistributors.{both_of, are_both, are_new, AgreesWith, metas_in_range, owner_at, one_of, cause_of, present_id}
 use Rattle.mu_model_mesh_safety.proofs.ShownLaws.{MemberLaws}
-use Rattle.mu_model_mesh_safety.proofs.ShownNodes.{log_of, Cause, shown_of}
+use Rattle.mu_model_mesh_safety.proofs.ShownNodes.{Cause, shown_of}
 use Rattle.mu_model_mesh_safety.proofs.ShownSafe.{same_end, same_transfer}
 use Rattle.mu_model_mesh_safety.proofs.ShownSends.{lists_begin_nothing}
 

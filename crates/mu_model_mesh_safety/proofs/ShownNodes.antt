@@ -1,6 +1,6 @@
 -- What is shown of a node is safe, by why it is shown: what the node took under the BLOB ID is what is offered with it, so what was
 -- reached was reached for that.
-use Rattle.std.proofs.Common.{arith, ◌≡◌, ◌⊎◌, ℕ, zero, suc, ◌<◌, true, false, List, [], ◌∷◌, ◌++◌, refl, sym, ap, subst, ◌∙◌, inl, inr, Option, Some, None, Contains}
+use Rattle.std.proofs.Common.{arith, ◌≡◌, ◌⊎◌, ℕ, zero, suc, true, false, List, [], ◌∷◌, ◌++◌, refl, sym, ap, subst, ◌∙◌, inl, inr, Some, Contains}
 use Rattle.std.specs.List.{AllByRecursion}
 use Rattle.std.specs.Prelude.{IsTrue, slice_get}
 use Rattle.mu_model_image.specs.declared.Meta.{Meta}
@@ -10,13 +10,13 @@ use Rattle.mu_model_wire.specs.Packet.{Packet}
 use Rattle.mu_model_node.specs.declared.NodeConfig.{NodeConfig}
 use Rattle.mu_model_node.specs.Log.{LogEntry, Took, Active, Reached}
 use Rattle.mu_model_node.specs.NodeState.{NodeState, restarted, is_addressee}
-use Rattle.mu_model_node.specs.Safe.{InOrder, ImageIsSafe, IsUpdated, found, state_after, log_after}
+use Rattle.mu_model_node.specs.Safe.{InOrder, ImageIsSafe, found, state_after, log_after}
 use Rattle.mu_model_node.specs.UpdateMessages.{UpdateStart}
 use Rattle.mu_model_client.specs.Rows.{is_reported, transfer_canceled, apply_success, apply_failed, phase_unknown}
 use Rattle.mu_model_fates.specs.Laws.{ReachedWasTaken, AskedBefore, HasVersion, VersionsOf, VersionsRise, ShownSinceTaken, OffersOne, CanceledSince, VerifiedIsHeld, come_in, IsOffer, TookWasOffered}
 use Rattle.mu_model_told.specs.Reached.{IdIsSafe}
 use Rattle.mu_model_world.specs.World.{Member, config_of}
-use Rattle.mu_model_mesh_safety.specs.Safe.{offered_in, IsApplied, IsShown, ruled, reached, applied, SaysHeld, IsHeldBy, RowIsSafe}
+use Rattle.mu_model_mesh_safety.specs.Safe.{offered_in, IsShown, ruled, reached, applied, SaysHeld, IsHeldBy, RowIsSafe}
 use Rattle.mu_model_mesh_safety.proofs.Kept.{NodeRun}
 use Rattle.mu_model_mesh_safety.proofs.Shown.{of_all, Starts, offered_first, rest, head}
 

@@ -3,7 +3,6 @@ use Rattle.std.proofs.Common.{arith, ◌≡◌, ℕ, zero, suc, ◌<◌, ◌==�
 use Rattle.std.proofs.lemmas.Bool.{eqb-true}
 use Rattle.std.proofs.lemmas.List.Elements.{All-from_get_or}
 use Rattle.std.specs.List.{All}
-use Rattle.std.specs.Prelude.{MatchOption}
 use Rattle.mu_model_image.specs.declared.Meta.{Meta}
 use Rattle.mu_model_image.specs.Laws.{MetaThatIsReadIsInRange}
 use Rattle.mu_model_image.specs.Meta.{IsMeta, meta_from}
@@ -17,8 +16,8 @@ use Rattle.mu_model_wire.specs.Table.{rows}
 use Rattle.mu_model_wire.specs.Update.{update_start}
 use Rattle.mu_model_wire.specs.declared.Refusal.{Refusal}
 use Rattle.mu_model_node.specs.BlobMessages.{BlobRequest, octets_of, blob_request_of}
-use Rattle.mu_model_node.specs.NodeMessages.{Request, OfUpdate, OfBlob, either_request, request_in, request_at}
-use Rattle.mu_model_node.specs.UpdateMessages.{UpdateStart, UpdateRequest, InformationGet, MetadataCheck, UpdateGet, StartUpdate, UpdateCancel, UpdateApply, update_request_of}
+use Rattle.mu_model_node.specs.NodeMessages.{Request, OfUpdate, either_request, request_in, request_at}
+use Rattle.mu_model_node.specs.UpdateMessages.{UpdateStart, UpdateRequest, StartUpdate, update_request_of}
 
 -- ---- octets
 

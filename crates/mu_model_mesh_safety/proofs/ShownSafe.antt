@@ -1,19 +1,19 @@
 -- A world whose members have gone through their runs is safe.
-use Rattle.std.proofs.Common.{◌≡◌, ℕ, List, ◌++◌, refl, sym, ap, subst, ◌∙◌, Some, Contains}
+use Rattle.std.proofs.Common.{◌≡◌, ℕ, List, ◌++◌, refl, sym, ap, subst, ◌∙◌, Contains}
 use Rattle.mu_model_image.specs.Meta.{Image}
 use Rattle.mu_model_wire.specs.Packet.{Packet}
 use Rattle.mu_model_node.specs.Log.{LogEntry}
-use Rattle.mu_model_node.specs.NodeState.{NodeState, restarted}
+use Rattle.mu_model_node.specs.NodeState.{NodeState}
 use Rattle.mu_model_node.specs.Safe.{ImagesAreSafe, found}
 use Rattle.mu_model_client.specs.Client.{rows}
 use Rattle.mu_model_client.specs.declared.Sending.{Sending}
 use Rattle.mu_model_client.specs.Rows.{Row}
-use Rattle.mu_model_distributor.specs.DistState.{Receiver, DistDurable, DistState, transfer_id}
+use Rattle.mu_model_distributor.specs.DistState.{Receiver, DistState, transfer_id}
 use Rattle.mu_model_distributor.specs.Runs.{state_after as dist_state_after}
 use Rattle.mu_model_offers.specs.Laws.{begin_of, end_of, kept_of}
 use Rattle.mu_model_updater.specs.Updater.{Updater, new_updater, updater_after}
-use Rattle.mu_model_world.specs.World.{Member, config_of, log_at}
-use Rattle.mu_model_mesh.specs.Mesh.{UpdaterMember, DistributorMember, Mesh, node_at, updater_at, distributor_at}
+use Rattle.mu_model_world.specs.World.{config_of, log_at}
+use Rattle.mu_model_mesh.specs.Mesh.{DistributorMember, Mesh}
 use Rattle.mu_model_mesh.specs.MeshOutcomes.{updater_transfer}
 use Rattle.mu_model_mesh_safety.specs.Safe.{RowIsSafe, RowIsSafeIn, ImagesAreSafeIn, DistributorsAreSafe, UpdatersAreSafe, IsSafe}
 use Rattle.mu_model_mesh_safety.proofs.Kept.{NodeRun, UpdaterRun, DistributorRun, Kept}

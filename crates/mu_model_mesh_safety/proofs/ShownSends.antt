@@ -1,6 +1,6 @@
 -- An event of a distributor that sends a Receivers List begins no distribution.
-use Rattle.std.proofs.Common.{arith, ◌≡◌, ◌⊎◌, ◌<◌, ℕ, ◌+◌, ◌*◌, ◌==◌, Bool, true, false, cond, List, [], ◌∷◌, ◌++◌, length, map, refl, sym, ap, subst, ◌∙◌, inl, inr, Option, Some, None, Result, Ok, Err, Contains}
-use Rattle.std.specs.Prelude.{◌%◌, nat_lt, slice_get}
+use Rattle.std.proofs.Common.{arith, ◌≡◌, ◌⊎◌, ◌<◌, ℕ, ◌+◌, ◌*◌, ◌==◌, Bool, true, false, cond, List, [], ◌∷◌, length, map, refl, sym, subst, ◌∙◌, inl, inr, Option, Some, None, Result, Ok, Err, Contains}
+use Rattle.std.specs.Prelude.{◌%◌, nat_lt}
 use Rattle.std.specs.List.{AllByRecursion}
 use Rattle.std.proofs.Math.Nat.{mod-eq_of_lt}
 use Rattle.std.proofs.Math.Dec.{ltb}
@@ -24,8 +24,8 @@ use Rattle.mu_model_client.specs.Rows.{Row}
 use Rattle.mu_model_distributor.specs.Commit.{Outcome, committed, recorded_if, answered}
 use Rattle.mu_model_distributor.specs.DistEvents.{at_moment, passed_over, on_packet, on_event, stepped, dist_step}
 use Rattle.mu_model_distributor.specs.DistMessages.{Taken, OfDistribution, OfBlob, OfReceiver, taken_at, Sent, ByDistribution, sent_octets, sent_packet}
-use Rattle.mu_model_distributor.specs.DistState.{UploadJob, Upload, NoUpload, Uploading, Broken, Uploaded, run_upload, DistState, server_of, is_at_rest}
-use Rattle.mu_model_distributor.specs.DistTable.{by_blob, blob_changed, served, hears, on_request, on_taken}
+use Rattle.mu_model_distributor.specs.DistState.{Upload, NoUpload, Uploading, Broken, Uploaded, run_upload, DistState, server_of, is_at_rest}
+use Rattle.mu_model_distributor.specs.DistTable.{by_blob, blob_changed, hears, on_request, on_taken}
 use Rattle.mu_model_distributor.specs.DistTime.{is_whole, verifies, broken_by, server_waits, waits, client_waits, on_time}
 use Rattle.mu_model_distributor.specs.Distribution.{distribution_status, distribution_start, distribution_suspend, distribution_cancel, distribution_apply}
 use Rattle.mu_model_distributor.specs.Firmware.{no_index, firmware_status, firmware_delete, firmware_delete_all}

@@ -1,10 +1,9 @@
 -- Whose an Update Start in the bag is: a stranger's, or that of the updater or distributor whose BLOB ID it has.
-use Rattle.std.proofs.Common.{arith, ◌≡◌, ◌⊎◌, ℕ, ◌<◌, ◌≤◌, ◌*◌, ◌+◌, ◌^◌, Bool, true, false, List, [], ◌∷◌, refl, sym, ap, subst, ◌∙◌, inl, inr, Option, Some, None, Contains}
+use Rattle.std.proofs.Common.{arith, ◌≡◌, ℕ, ◌<◌, ◌*◌, ◌+◌, ◌^◌, Bool, true, false, List, refl, sym, ap, subst, ◌∙◌, Option, Some, None, Contains}
 use Rattle.std.proofs.lemmas.Nat.{div-mul-add}
-use Rattle.std.specs.List.{AllByRecursion}
 use Rattle.mu_model_image.specs.declared.Meta.{Meta}
 use Rattle.mu_model_image.specs.Laws.{MetaIsReadBack}
-use Rattle.mu_model_image.specs.Meta.{IsMeta, meta_octets, meta_from}
+use Rattle.mu_model_image.specs.Meta.{IsMeta, meta_from}
 use Rattle.mu_model_wire.specs.Packet.{Packet}
 use Rattle.mu_model_node.specs.NodeMessages.{request_at}
 use Rattle.mu_model_node.specs.NodeState.{restarted}

@@ -1,17 +1,15 @@
 -- What an updater shows of a node, and why.
-use Rattle.std.proofs.Common.{◌≡◌, ◌⊎◌, ℕ, ◌==◌, Bool, true, false, cond, List, [], ◌∷◌, map, refl, sym, ap, subst, ◌∙◌, inl, inr, Option, Some, None, Contains}
+use Rattle.std.proofs.Common.{◌≡◌, ℕ, ◌==◌, Bool, true, false, cond, List, [], ◌∷◌, map, refl, sym, ap, subst, ◌∙◌, inl, inr, Option, Some, None, Contains}
 use Rattle.std.specs.List.{AllByRecursion}
-use Rattle.mu_model_image.specs.declared.Meta.{Meta}
-use Rattle.mu_model_image.specs.Meta.{Image, meta_octets, meta_from}
+use Rattle.mu_model_image.specs.Meta.{meta_from}
 use Rattle.mu_model_wire.specs.Packet.{Packet}
 use Rattle.mu_model_node.specs.Events.{NodeEvent, PacketComes, TimeComes}
 use Rattle.mu_model_node.specs.UpdateMessages.{UpdateStart}
-use Rattle.mu_model_client.specs.declared.Plan.{Plan}
 use Rattle.mu_model_client.specs.Answers.{Answer, answer_at}
 use Rattle.mu_model_client.specs.Client.{Client, rows}
 use Rattle.mu_model_client.specs.Packets.{answer_handled, client_packet}
 use Rattle.mu_model_client.specs.Rows.{Row}
-use Rattle.mu_model_client_laws.specs.Asked.{address_and_index, receivers_of, HasReceiver}
+use Rattle.mu_model_client_laws.specs.Asked.{address_and_index, HasReceiver}
 use Rattle.mu_model_client_laws.specs.Laws.{KeepsPlan}
 use Rattle.mu_model_updater.specs.Laws.{IsOffered}
 use Rattle.mu_model_updater.specs.Updater.{Updater, new_updater, updater_step, updater_after, come_in}
@@ -24,7 +22,7 @@ use Rattle.mu_model_mesh_safety.proofs.Kept.{NodeRun, UpdaterRun, Kept}
 use Rattle.mu_model_mesh_safety.proofs.Shown.{of_all, Starts}
 use Rattle.mu_model_mesh_safety.proofs.ShownDistributors.{comes_from, metas_in_range}
 use Rattle.mu_model_mesh_safety.proofs.ShownLaws.{MemberLaws}
-use Rattle.mu_model_mesh_safety.proofs.ShownNodes.{log_of, state_of, OneOffer, MetasInRange, IsIndexOf, IsOfferOf, Cause, by_verdict, by_log, by_image, row_safe}
+use Rattle.mu_model_mesh_safety.proofs.ShownNodes.{log_of, state_of, OneOffer, IsIndexOf, IsOfferOf, Cause, by_verdict, by_log, by_image, row_safe}
 use Rattle.mu_model_mesh_safety.proofs.ShownStarts.{owner_is, has_no_job, updater_start}
 
 -- ---- the transfer of an updater stays

@@ -1,5 +1,5 @@
 -- What is on the air and in the logs of a world is so: the facts that safety rests on, each by its name.
-use Rattle.std.specs.Prelude.{ℕ, ◌≡◌, ◌≤◌, ◌+◌, true, List, [], ◌∷◌, Option, Some, None}
+use Rattle.std.specs.Prelude.{ℕ, ◌≡◌, ◌≤◌, ◌+◌, true, List, [], ◌∷◌, Some}
 use Rattle.std.specs.List.{AllByRecursion}
 use Rattle.mu_model_image.specs.Meta.{Image, firmware_id, own_company}
 use Rattle.mu_model_wire.specs.Packet.{Packet}

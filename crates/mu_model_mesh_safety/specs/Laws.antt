@@ -8,6 +8,7 @@ use Rattle.mu_model_world.specs.Outcomes.{booted}
 use Rattle.mu_model_mesh.specs.Mesh.{DistributorMember, Mesh, new_mesh, node_at, distributor_at}
 use Rattle.mu_model_mesh.specs.MeshOutcomes.{of_nodes, dist_booted, mesh_begun}
 use Rattle.mu_model_mesh.specs.MeshRun.{MeshRun, Within}
+use Rattle.mu_model_mesh_safety.specs.Facts.{FactsHold}
 use Rattle.mu_model_mesh_safety.specs.Safe.{IsSafe, ListsAreTrue}
 
 -- what holds of each world of each script, whatever outcomes its tears have, and of each world within a line
@@ -46,3 +47,6 @@ EveryCutIsSafe = Always (λ m. AfterCuts IsSafe (mesh_begun m))
 
 abbrev pub ListsStayTrue : Type 0
 ListsStayTrue = Always (λ m. AfterCuts ListsAreTrue (mesh_begun m))
+
+abbrev pub EveryFactHolds : Type 0
+EveryFactHolds = Always FactsHold

@@ -1,4 +1,4 @@
-use Rattle.mu_model_mesh_safety.proofs.Every.{LineLaws, every_world, every_cut}
+use Rattle.mu_model_mesh_safety.proofs.Every.{LineLaws, FactLaws, every_world, every_cut, every_list, every_list_stays, every_fact}
 use Rattle.mu_model_mesh_safety.proofs.ShownLaws.{MemberLaws}
 use Rattle.mu_model_mesh_safety.proofs.ShownOctets.{octets_offer}
 use Rattle.mu_model_mesh_safety.proofs.laws.every_world_is_safe.Goals as goal
@@ -56,3 +56,21 @@ returns-clause-worlds c = every_world (lines_of c) (members_of c)
 
 pub returns-clause-cuts : goal.returns-clause-cuts
 returns-clause-cuts c = every_cut (lines_of c) (members_of c)
+
+facts_of : goal.After-rows_are_reached → FactLaws
+facts_of c = record {
+  sent = c.told_is_reached.ensures.all;
+  lost = c.runs_are_in_order.ensures.numbers;
+  rise = c.starts_are_offered-2.ensures.counters;
+  jobs = c.jobs_are_logged.ensures.job;
+  on = c.jobs_go_on.ensures;
+}
+
+pub returns-clause-lists : goal.returns-clause-lists
+returns-clause-lists c = every_list (lines_of c) (members_of c)
+
+pub returns-clause-lists_after : goal.returns-clause-lists_after
+returns-clause-lists_after c = every_list_stays (lines_of c) (members_of c)
+
+pub returns-clause-facts : goal.returns-clause-facts
+returns-clause-facts c = every_fact (lines_of c) (members_of c) (facts_of c)
