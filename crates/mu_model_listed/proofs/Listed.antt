@@ -124,9 +124,9 @@ row_reached b r all from (told is h) = reached is (subst (λ id. WasReached b.no
 row_reached b r all from (shown is h) =
     let said = among b h.heard_both all in
     active h.phase is h.reported (subst (λ id. WasReached b.node (log_of b) id h.phase) h.of (said.0 from))
-    (record { meta = h.offer; offered = (r.address, FromUpdate (InformationStatus h.count r.index (firmware_id own_company h.offer ∷ h.more)), second h.heard_both); active = said.1.0 from })
+    (record { meta = h.offer; offered = (r.address, FromUpdate (InformationStatus h.count r.index (firmware_id own_company h.offer ∷ h.more)), second h.heard_both); active = (said.1.0 from).0 })
 row_reached b r all from (shown_since is e h) =
-    active_since h.phase is e h.reported h.was (record { meta = h.offer; offered = (r.address, FromUpdate (InformationStatus h.count r.index (firmware_id own_company h.offer ∷ h.more)), h.heard_it); active = (among b h.heard_it all).0 from })
+    active_since h.phase is e h.reported h.was (record { meta = h.offer; offered = (r.address, FromUpdate (InformationStatus h.count r.index (firmware_id own_company h.offer ∷ h.more)), h.heard_it); active = ((among b h.heard_it all).0 from).0 })
 
 -- ---- both
 

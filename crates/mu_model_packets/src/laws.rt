@@ -1,6 +1,8 @@
 //! Laws of the definitions: functions that do nothing, whose contracts are proved.
 
-ghost use Rattle.mu_model_packets.specs.Laws.{OctetsSayFit};
+ghost use Rattle.mu_model_packets.specs.Laws.{DistributorsSendFit, NodesSendFit, OctetsSayFit, UpdatersSendFit};
+
+use mu_model_client_laws::laws::requests_are_no_answers;
 
 /// What octets say to a node and to a distributor is in the ranges of the grammar.
 pub fn octets_say_fit()
@@ -9,4 +11,27 @@ pub fn octets_say_fit()
     mu_model_node::laws::octets_ask_in_range();
     mu_model_told::laws::octets_say_numbers();
     mu_model_distributor_laws::laws::octets_say_in_range();
+}
+
+/// What a node sends is in the ranges of the grammar, offers no update and is no Receivers List.
+pub fn nodes_send_fit()
+    ensures { NodesSendFit }
+{}
+
+/// What an updater sends is in the ranges of the grammar, where its plan is.
+pub fn updaters_send_fit()
+    ensures { UpdatersSendFit }
+{
+    octets_say_fit();
+    requests_are_no_answers();
+    mu_model_updater::laws::starts_are_offered();
+}
+
+/// What a distributor sends is in the ranges of the grammar.
+pub fn distributors_send_fit()
+    ensures { DistributorsSendFit }
+{
+    octets_say_fit();
+    requests_are_no_answers();
+    mu_model_offers::laws::offers_agree();
 }

@@ -1,5 +1,6 @@
 -- All that a node sent in a run was reached by its end.
 use Rattle.std.proofs.Common.{◌≡◌, ℕ, List, [], ◌∷◌, ◌++◌, refl, sym, ap, subst, ◌∙◌, append_assoc, Option, Some, None, inl, inr}
+use Rattle.std.specs.Prelude.{◌+◌}
 use Rattle.std.specs.List.{AllByRecursion}
 use Rattle.mu_model_image.specs.Meta.{Image}
 use Rattle.mu_model_wire.specs.Packet.{Packet}
@@ -11,7 +12,7 @@ use Rattle.mu_model_node.specs.Sound.{IsNodeDurable}
 use Rattle.mu_model_node.specs.UpdateMessages.{UpdateReply, InformationStatus, MetadataStatus, UpdateStatus}
 use Rattle.mu_model_client.specs.Answers.{Answer, FromUpdate, FromBlob, answer_at}
 use Rattle.mu_model_told.specs.Laws.{HasNumbers}
-use Rattle.mu_model_told.specs.Reached.{HappeningFits, ReplyIsReached, IsReached, sent_by, sent_in, SentIsReached}
+use Rattle.mu_model_told.specs.Reached.{HappeningFits, IdsAreSafe, ReplyIsReached, IsReached, sent_by, sent_in, SentIsReached}
 use Rattle.mu_model_told.proofs.Runs.{in_left, more_reached, state_more}
 use Rattle.mu_model_told.proofs.Reached.{Lower, told_is_reached}
 
@@ -23,11 +24,14 @@ image_later d log more index image (inr h) =
     let longer = in_left more h.in_order in
     inr (record { id = h.id; in_order = rw (← append_assoc (found d.job) log more) longer; whole = h.whole })
 
+ids_later : (d : NodeDurable) (log more : List LogEntry) (index : ℕ) (ids : List (List ℕ)) → IdsAreSafe d log index ids → IdsAreSafe d (log ++ more) index ids
+ids_later d log more index [] h = tt
+ids_later d log more index (fwid ∷ ids) h = ((h.0.0, h.0.1, image_later d log more index h.0.0 h.0.2), ids_later d log more (index + 1) ids h.1)
+
 reply_later : (d : NodeDurable) (log more : List LogEntry) (reply : UpdateReply) → ReplyIsReached d log reply → ReplyIsReached d (log ++ more) reply
 reply_later d log more (UpdateStatus status phase None) h = tt
 reply_later d log more (UpdateStatus status phase (Some job)) h = more_reached d log more job.id phase h
-reply_later d log more (InformationStatus count first []) h = tt
-reply_later d log more (InformationStatus count first (fwid ∷ others)) h = (h.0, h.1, image_later d log more first h.0 h.2)
+reply_later d log more (InformationStatus count first ids) h = ids_later d log more first ids h
 reply_later d log more (MetadataStatus status index) h = tt
 
 answer_later : (d : NodeDurable) (log more : List LogEntry) (answer : Option Answer) → IsReached d log answer → IsReached d (log ++ more) answer

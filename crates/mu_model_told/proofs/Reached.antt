@@ -1,8 +1,8 @@
 -- What a node tells over whole runs was reached by then.
-use Rattle.std.proofs.Common.{◌≡◌, ℕ, zero, suc, List, [], ◌∷◌, ◌++◌, take, drop, refl, ap, subst, Option, Some, None}
-use Rattle.std.specs.Prelude.{slice_get}
+use Rattle.std.proofs.Common.{◌≡◌, ℕ, zero, suc, List, [], ◌∷◌, ◌++◌, take, drop, refl, sym, ap, subst, arith, Option, Some, None}
+use Rattle.std.specs.Prelude.{slice_get, ◌+◌}
 use Rattle.std.specs.List.{AllByRecursion}
-use Rattle.mu_model_image.specs.Meta.{Image, firmware_id, own_company}
+use Rattle.mu_model_image.specs.Meta.{Image}
 use Rattle.mu_model_image.specs.Laws.{ImagesHaveMetadata}
 use Rattle.mu_model_wire.specs.Packet.{Packet}
 use Rattle.mu_model_wire.specs.Laws.{CanonicalIsRead, GrammarHolds}
@@ -10,12 +10,12 @@ use Rattle.mu_model_node.specs.Events.{node_step}
 use Rattle.mu_model_node.specs.Laws.{EventsKeepStatesSound, BootsAreSound, WorkLeavesOldOrNew}
 use Rattle.mu_model_node.specs.Log.{LogEntry}
 use Rattle.mu_model_node.specs.NodeState.{Job, NodeDurable, NodeState, update_number, update_phase, restarted}
-use Rattle.mu_model_node.specs.Safe.{Happening, Done, ImagesAreSafe, OneNodeIsSafe, found, state_after, log_after}
+use Rattle.mu_model_node.specs.Safe.{Happening, Done, ImageIsSafe, ImagesAreSafe, OneNodeIsSafe, found, state_after, log_after}
 use Rattle.mu_model_node.specs.UpdateMessages.{ShownJob, UpdateReply, InformationStatus, MetadataStatus, UpdateStatus}
 use Rattle.mu_model_node.specs.UpdateTable.{shown}
 use Rattle.mu_model_client.specs.Answers.{Answer, FromUpdate, FromBlob, answer_at}
 use Rattle.mu_model_told.specs.Laws.{shown_in, ids_of, IsSoOf, IsSo}
-use Rattle.mu_model_told.specs.Reached.{WasReached, ReplyIsReached, IsReached, ToldIsReached}
+use Rattle.mu_model_told.specs.Reached.{WasReached, IdsAreSafe, ReplyIsReached, IsReached, ToldIsReached}
 use Rattle.mu_model_told.proofs.Runs.{IsInOrder, run_in_order, boot_in_order, JobIsReached, StateIsReached, runs_reached, state_more}
 use Rattle.mu_model_told.proofs.Sent.{told_is_so}
 
@@ -30,27 +30,31 @@ job_told d log phase n job (Some j) e f h =
 
 -- ---- an Information Status
 
--- the first of what is taken is the Firmware ID of the image of that index
-first_id : (images : List Image) (first limit : ℕ) (fwid : List ℕ) (more : List (List ℕ)) → fwid ∷ more ≡ take limit (drop first (ids_of images)) → (image : Image) × (slice_get images first ≡ Some image) × (fwid ≡ firmware_id own_company image.meta)
-first_id [] zero zero fwid more e = cc
-first_id [] zero (suc limit) fwid more e = cc
-first_id [] (suc first) zero fwid more e = cc
-first_id [] (suc first) (suc limit) fwid more e = cc
-first_id (x ∷ images) zero zero fwid more e = cc
-first_id (x ∷ images) zero (suc limit) fwid more e =
-    let same : fwid ≡ firmware_id own_company x.meta = cc in
-    (x, refl, same)
-first_id (x ∷ images) (suc first) limit fwid more e = first_id images first limit fwid more e
+-- what is taken are the Firmware IDs of the images from that index on
+ids_safe : (d : NodeDurable) (log : List LogEntry) (images : List Image) (base limit : ℕ) → ((i : ℕ) (image : Image) → slice_get images i ≡ Some image → ImageIsSafe d.images (found d.job ++ log) (base + i) image) → IdsAreSafe d log base (take limit (ids_of images))
+ids_safe d log [] base zero h = tt
+ids_safe d log [] base (suc limit) h = tt
+ids_safe d log (x ∷ images) base zero h = tt
+ids_safe d log (x ∷ images) base (suc limit) h =
+    ((x, refl, subst (λ (n : ℕ). ImageIsSafe d.images (found d.job ++ log) n x) (omega arith) (h 0 x refl)),
+    ids_safe d log images (base + 1) limit (λ i image is. subst (λ (n : ℕ). ImageIsSafe d.images (found d.job ++ log) n image) (omega arith) (h (suc i) image is)))
+
+ids_from : (d : NodeDurable) (log : List LogEntry) (images : List Image) (base first limit : ℕ) → ((i : ℕ) (image : Image) → slice_get images i ≡ Some image → ImageIsSafe d.images (found d.job ++ log) (base + i) image) → IdsAreSafe d log (base + first) (take limit (drop first (ids_of images)))
+ids_from d log images base zero limit h = subst (λ (n : ℕ). IdsAreSafe d log n (take limit (ids_of images))) (omega arith) (ids_safe d log images base limit h)
+ids_from d log [] base (suc first) zero h = tt
+ids_from d log [] base (suc first) (suc limit) h = tt
+ids_from d log (x ∷ images) base (suc first) limit h =
+    subst (λ (n : ℕ). IdsAreSafe d log n (take limit (drop first (ids_of images)))) (omega arith)
+    (ids_from d log images (base + 1) first limit (λ i image is. subst (λ (n : ℕ). ImageIsSafe d.images (found d.job ++ log) n image) (omega arith) (h (suc i) image is)))
 
 -- ---- what is told
 
 reply_reached : (d : NodeDurable) (log : List LogEntry) (s : NodeState) (reply : UpdateReply) → StateIsReached d log s → ImagesAreSafe d.images (found d.job ++ log) s.durable.images → IsSoOf s reply → ReplyIsReached d log reply
 reply_reached d log s (UpdateStatus status phase None) h k so = tt
 reply_reached d log s (UpdateStatus status phase (Some job)) h k so = job_told d log phase (update_number (update_phase s)) job s.durable.job so.0 so.1 h
-reply_reached d log s (InformationStatus count first []) h k so = tt
-reply_reached d log s (InformationStatus count first (fwid ∷ more)) h k so =
-    let own = first_id s.durable.images first so.1 fwid more so.2 in
-    (own.0, own.2, k first own.0 own.1)
+reply_reached d log s (InformationStatus count first ids) h k so =
+    subst (λ (shown : List (List ℕ)). IdsAreSafe d log first shown) (sym so.2) (subst (λ (n : ℕ). IdsAreSafe d log n (take so.1 (drop first (ids_of s.durable.images)))) (omega arith)
+    (ids_from d log s.durable.images 0 first so.1 (λ i image is. subst (λ (n : ℕ). ImageIsSafe d.images (found d.job ++ log) n image) (omega arith) (k i image is))))
 reply_reached d log s (MetadataStatus status index) h k so = tt
 
 answer_reached : (d : NodeDurable) (log : List LogEntry) (s : NodeState) (answer : Option Answer) → StateIsReached d log s → ImagesAreSafe d.images (found d.job ++ log) s.durable.images → IsSo s answer → IsReached d log answer

@@ -1,5 +1,5 @@
 -- What a client reads of a node over whole runs was reached, by the node's log.
-use Rattle.std.specs.Prelude.{ℕ, ◌≡◌, ◌⊎◌, List, [], ◌∷◌, ◌++◌, Option, Some}
+use Rattle.std.specs.Prelude.{ℕ, ◌≡◌, ◌⊎◌, ◌+◌, List, [], ◌∷◌, ◌++◌, Option, Some}
 use Rattle.std.specs.List.{AllByRecursion}
 use Rattle.mu_model_image.specs.Meta.{Image, firmware_id, own_company}
 use Rattle.mu_model_wire.specs.Packet.{Packet}
@@ -32,17 +32,22 @@ WasReached d log id phase = InOrder (Reached id phase ∷ []) log ⊎ FoundIn d 
 abbrev pub IdIsSafe : NodeDurable → List LogEntry → ℕ → List ℕ → Type 0
 IdIsSafe d log index fwid = (image : Image) × (fwid ≡ firmware_id own_company image.meta) × ImageIsSafe d.images (found d.job ++ log) index image
 
+-- each of the Firmware IDs is, the first for the image of this index, and each other for the next
+abbrev pub IdsAreSafe : NodeDurable → List LogEntry → ℕ → List (List ℕ) → Type 0
+IdsAreSafe d log index [] = Unit {0}
+IdsAreSafe d log index (fwid ∷ more) = IdIsSafe d log index fwid × IdsAreSafe d log (index + 1) more
+
 abbrev pub ReplyIsReached : NodeDurable → List LogEntry → UpdateReply → Type 0
 ReplyIsReached d log (UpdateStatus status phase (Some job)) = WasReached d log job.id phase
-ReplyIsReached d log (InformationStatus count first (fwid ∷ more)) = IdIsSafe d log first fwid
+ReplyIsReached d log (InformationStatus count first ids) = IdsAreSafe d log first ids
 ReplyIsReached d log _ = Unit {0}
 
 abbrev pub IsReached : NodeDurable → List LogEntry → Option Answer → Type 0
 IsReached d log (Some (FromUpdate reply)) = ReplyIsReached d log reply
 IsReached d log _ = Unit {0}
 
--- each packet that a node ever sends, read as a client reads it, tells a phase that the log has reached by then, or the Firmware ID of
--- an image that is safe
+-- each packet that a node ever sends, read as a client reads it, tells a phase that the log has reached by then, or Firmware IDs of
+-- images that are safe
 abbrev pub ToldIsReached : Type 0
 ToldIsReached =
     (config : NodeConfig) (d : NodeDurable) (hs : List Happening) (event : NodeEvent) (now : ℕ)

@@ -78,7 +78,7 @@ row_reached b row all from (told_failed e) = failed e
 row_reached b row all from (told is h) = reached is (subst (λ id. WasReached b.node (log_of b) id row.phase) h.of ((among b h.heard_it all).0 from))
 row_reached b row all from (shown is h) =
     let said = among b h.heard_both all in
-    active h.phase is h.reported (subst (λ id. WasReached b.node (log_of b) id h.phase) h.of (said.0 from)) (said.1.0 from)
+    active h.phase is h.reported (subst (λ id. WasReached b.node (log_of b) id h.phase) h.of (said.0 from)) (said.1.0 from).0
 
 each_reached : (b : Both) (given : List Row) → AllByRecursion (IsTrueOf b) (heard_in b.plan.sending.from b.to_updater) → AllByRecursion (RowIsTold b.plan (heard_in b.plan.sending.from b.to_updater)) given → AllByRecursion (λ (row : Row). row.address ≡ b.config.address → RowIsReached b row) given
 each_reached b [] all h = tt

@@ -1,0 +1,152 @@
+-- A message with an opcode of its own is read as one of its kind or as none, and then says nothing out of range.
+use Rattle.std.proofs.Common.{◌≡◌, ◌<◌, ℕ, ◌+◌, ◌*◌, ◌%◌, Bool, true, false, List, [], ◌∷◌, length, refl, sym, ap, subst, cond, arith, Option, Some, None, Result, Ok, Err}
+use Rattle.std.specs.Prelude.{nat_lt, MatchOption}
+use Rattle.std.proofs.Math.Nat.{mod-eq_of_lt}
+use Rattle.std.proofs.Math.Dec.{ltb}
+use Rattle.std.proofs.lemmas.Bool.{le-ltb, ne_eqb}
+use Rattle.byteorder.specs.Endian.{little_number}
+use Rattle.byteorder.specs.Numbers.{little_number-reads_back}
+use Rattle.mu_model_wire.specs.declared.Refusal.{Refusal}
+use Rattle.mu_model_wire.specs.declared.Why.TheVariants.{Long}
+use Rattle.mu_model_wire.specs.Fields.{Fields, Shown, Message}
+use Rattle.mu_model_wire.specs.Packet.{Packet}
+use Rattle.mu_model_wire.specs.Reading.{◌>>=◌, Left, refuse, message_at, opcode_at, word_at, row_at, fields_at, fields_of}
+use Rattle.mu_model_wire.specs.Table.{rows}
+use Rattle.mu_model_node.specs.BlobMessages.{BlobRequest, blob_request_of}
+use Rattle.mu_model_node.specs.UpdateMessages.{UpdateRequest, update_request_of}
+use Rattle.mu_model_node.specs.NodeMessages.{either_request, request_of}
+use Rattle.mu_model_node.specs.Sound.{RequestFits, BlobRequestFits}
+use Rattle.mu_model_client.specs.Answers.{Answer, answer_of}
+use Rattle.mu_model_distributor.specs.Requests.{dist_request_of}
+use Rattle.mu_model_distributor.specs.DistMessages.{taken_as, taken_of}
+use Rattle.mu_model_distributor.specs.Sound.{AnswerFits, TakenFits}
+use Rattle.mu_model_distributor_laws.specs.Lists.{list_of}
+use Rattle.mu_model_told.specs.Laws.{AreUpdateNumbers, AreRequestNumbers}
+use Rattle.mu_model_packets.specs.Laws.{PacketFits, OffersNothing, IsAnswer}
+use Rattle.mu_model_packets.proofs.Tested.{IsTested, message_tested, blob_fits, answer_fits}
+
+-- ---- an opcode that is read is the message's
+
+abbrev pub Keeps : ℕ → List ℕ → Type 0
+Keeps opcode bytes = (m : Message) → message_at rows bytes ≡ Ok m → m.opcode ≡ opcode
+
+abbrev KeptIn : ℕ → Result Message Refusal → Type 0
+KeptIn opcode read = (m : Message) → read ≡ Ok m → m.opcode ≡ opcode
+
+abbrev opcode_in : Result Message Refusal → ℕ
+opcode_in (Ok m) = m.opcode
+opcode_in (Err e) = 0
+
+by_fields : (opcode : ℕ) (r : Result (List Shown × List (List Shown)) Refusal) → KeptIn opcode (r >>= λ shown. Ok (record { opcode = opcode; fields = shown.0; entries = shown.1 }))
+by_fields opcode (Ok shown) m h = sym (ap opcode_in h)
+by_fields opcode (Err e) m h = cc
+
+by_row : (found : Option Fields) (opcode : ℕ) (left : Left) → KeptIn opcode (row_at found opcode left)
+by_row None opcode left m h = cc
+by_row (Some fs) opcode left m h = by_fields opcode (fields_at fs [] left) m h
+
+kept : (opcode : ℕ) (left : Left) (bytes : List ℕ) → opcode_at (record { at = 0; octets = bytes }) ≡ Ok (opcode, left) → Keeps opcode bytes
+kept opcode left bytes e = by_length (nat_lt 380 (length bytes))
+  where
+    by_length : (b : Bool) → KeptIn opcode (cond b (refuse 380 Long) (opcode_at (record { at = 0; octets = bytes }) >>= λ opcode. row_at (fields_of rows opcode.0) opcode.0 opcode.1))
+    by_length true = λ m h. cc
+    by_length false = rw e (by_row (fields_of rows opcode) opcode left)
+
+word_first : (a at : ℕ) (os : List ℕ) → a < 256 → word_at 1 (record { at = at; octets = a ∷ os }) ≡ Ok (a, record { at = at + 1; octets = os })
+unfolding word_at
+word_first a at os small =
+    let e : a % 256 ≡ a = mod-eq_of_lt small in
+    let again : little_number 1 (a % 256 ∷ os) ≡ a = little_number-reads_back 1 a os (omega arith) in
+    let n : little_number 1 (a ∷ os) ≡ a = subst (λ x. little_number 1 (x ∷ os) ≡ a) e again in
+    let long : ltb (length (a ∷ os)) 1 ≡ false = le-ltb (length (a ∷ os)) 1 (omega arith) in
+    rw (long, n) refl
+
+two : (low : ℕ) (body : List ℕ) → opcode_at (record { at = 0; octets = 0x83 ∷ low ∷ body }) ≡ Ok (0x83 * 256 + low, record { at = 2; octets = body })
+unfolding opcode_at
+two low body = rw (word_first 0x83 0 (low ∷ body) (omega arith), ne_eqb (length (low ∷ body)) 0 (λ (none : length (low ∷ body) ≡ 0). omega arith)) refl
+
+one_67 : (body : List ℕ) → opcode_at (record { at = 0; octets = 0x67 ∷ body }) ≡ Ok (0x67, record { at = 1; octets = body })
+unfolding opcode_at
+one_67 body = rw (word_first 0x67 0 body (omega arith)) refl
+
+one_68 : (body : List ℕ) → opcode_at (record { at = 0; octets = 0x68 ∷ body }) ≡ Ok (0x68, record { at = 1; octets = body })
+unfolding opcode_at
+one_68 body = rw (word_first 0x68 0 body (omega arith)) refl
+
+-- opcodes of two octets, and of one
+pub keeps_two : (bytes : List ℕ) (low : ℕ) (body : List ℕ) → bytes ≡ 0x83 ∷ low ∷ body → Keeps (0x83 * 256 + low) bytes
+keeps_two bytes low body e = rw e (kept (0x83 * 256 + low) _ _ (two low body))
+
+pub keeps_67 : (bytes body : List ℕ) → bytes ≡ 0x67 ∷ body → Keeps 0x67 bytes
+keeps_67 bytes body e = rw e (kept 0x67 _ _ (one_67 body))
+
+pub keeps_68 : (bytes body : List ℕ) → bytes ≡ 0x68 ∷ body → Keeps 0x68 bytes
+keeps_68 bytes body e = rw e (kept 0x68 _ _ (one_68 body))
+
+-- ---- what a message says is in range
+
+record MessageFits (m : Message) : Type 0 where
+  node : MatchOption (request_of m) (Unit {0}) RequestFits
+  numbers : MatchOption (request_of m) (Unit {0}) AreRequestNumbers
+  distributor : MatchOption (taken_of m) (Unit {0}) TakenFits
+
+-- no message of the opcode has numbers of an update, and none is a request of a distribution
+pub record IsOther (opcode : ℕ) : Type 0 where
+  pub numbers : (m : Message) → m.opcode ≡ opcode → MatchOption (update_request_of m) (Unit {0}) AreUpdateNumbers
+  pub distribution : (m : Message) → m.opcode ≡ opcode → dist_request_of m ≡ None
+
+asked : (update : Option UpdateRequest) (blob : Option BlobRequest) → MatchOption blob (Unit {0}) BlobRequestFits → MatchOption (either_request update blob) (Unit {0}) RequestFits
+asked (Some request) blob h = tt
+asked None (Some request) h = h
+asked None None h = tt
+
+numbered : (update : Option UpdateRequest) (blob : Option BlobRequest) → MatchOption update (Unit {0}) AreUpdateNumbers → MatchOption (either_request update blob) (Unit {0}) AreRequestNumbers
+numbered (Some request) blob h = h
+numbered None (Some request) h = tt
+numbered None None h = tt
+
+took : (blob : Option BlobRequest) (answer : Option Answer) → MatchOption blob (Unit {0}) BlobRequestFits → MatchOption answer (Unit {0}) AnswerFits → MatchOption (taken_as None blob answer) (Unit {0}) TakenFits
+took (Some request) answer h k = h
+took None (Some answer) h k = k
+took None None h k = tt
+
+taken_fits : (m : Message) → dist_request_of m ≡ None → IsTested m → MatchOption (taken_of m) (Unit {0}) TakenFits
+taken_fits m e h = rw e (took (blob_request_of m) (answer_of m) (blob_fits m h) (answer_fits m h))
+
+message_fits : (opcode : ℕ) (m : Message) → IsOther opcode → m.opcode ≡ opcode → IsTested m → MessageFits m
+message_fits opcode m other e h = record {
+  node = asked (update_request_of m) (blob_request_of m) (blob_fits m h);
+  numbers = numbered (update_request_of m) (blob_request_of m) (other.numbers m e);
+  distributor = taken_fits m (other.distribution m e) h;
+}
+
+-- what is read of a packet says no more than its message
+by_message : (p : Packet) (r : Result Message Refusal) → message_at rows p.payload ≡ r → ((m : Message) → message_at rows p.payload ≡ Ok m → MessageFits m) → PacketFits p
+by_message p (Ok m) e h =
+    let fits = h m e in
+    record { node = rw e fits.node; numbers = rw e fits.numbers; distributor = rw e fits.distributor }
+by_message p (Err d) e h = record { node = rw e tt; numbers = rw e tt; distributor = rw e tt }
+
+pub packet_fits : (opcode : ℕ) (p : Packet) → IsOther opcode → Keeps opcode p.payload → PacketFits p
+packet_fits opcode p other keeps =
+    by_message p (message_at rows p.payload) refl (λ m e. message_fits opcode m other (keeps m e) (message_tested p.payload m e))
+
+-- ---- answers
+
+-- no message of the opcode is a request of a node, or a Receivers List
+pub record IsReply (opcode : ℕ) : Type 0 where
+  pub request : (m : Message) → m.opcode ≡ opcode → request_of m ≡ None
+  pub list : (m : Message) → m.opcode ≡ opcode → list_of m ≡ None
+
+offers_nothing : (opcode : ℕ) (p : Packet) (r : Result Message Refusal) → message_at rows p.payload ≡ r → IsReply opcode → Keeps opcode p.payload → OffersNothing p
+offers_nothing opcode p (Ok m) e reply keeps =
+    let none : request_of m ≡ None = reply.request m (keeps m e) in
+    let no_list : list_of m ≡ None = reply.list m (keeps m e) in
+    record { no_start = rw (e, none) (λ u h. cc); no_list = rw e no_list }
+offers_nothing opcode p (Err d) e reply keeps = record { no_start = rw e (λ u h. cc); no_list = rw e refl }
+
+pub packet_answers : (opcode : ℕ) (p : Packet) → IsOther opcode → IsReply opcode → Keeps opcode p.payload → IsAnswer p
+packet_answers opcode p other reply keeps = record {
+  fits = packet_fits opcode p other keeps;
+  offers_nothing = offers_nothing opcode p (message_at rows p.payload) refl reply keeps;
+}

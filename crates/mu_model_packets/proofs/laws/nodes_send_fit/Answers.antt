@@ -1,0 +1,5 @@
+use Rattle.mu_model_packets.proofs.Nodes.{nodes_send_fit}
+use Rattle.mu_model_packets.proofs.laws.nodes_send_fit.Goals as goal
+
+pub returns : goal.returns
+returns c = nodes_send_fit
