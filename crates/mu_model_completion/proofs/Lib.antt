@@ -18,3 +18,4 @@ pub mod Middle
 pub mod End
 pub mod Theorem
 pub mod SixtyFour
+pub mod Among

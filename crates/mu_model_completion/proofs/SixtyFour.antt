@@ -29,15 +29,17 @@ module _ (laws : KeepsPlan) (fields : FieldsAreRead) (tiles : Tiles) (read : Met
     state = restarted (new_node 16 image_a);
     found = refl;
     handed = omega arith;
-    idle = refl;
-    active = image_a;
-    others = [];
-    images = refl;
-    older = newer;
-    room = omega (arith, long);
+    can = record {
+      idle = refl;
+      active = image_a;
+      others = [];
+      images = refl;
+      older = newer;
+      room = omega (arith, long);
+      some_group = inr (omega arith);
+      in_group = inr refl;
+    };
     unicast = omega arith;
-    some_group = inr (omega arith);
-    in_group = inr refl;
   })
   takes a (inr (inl e)) = subst (Takes (plan_64 version image) (members_64 version image)) (sym e) (record {
     config = record { address = 3; group = 0xC000 };
@@ -45,15 +47,17 @@ module _ (laws : KeepsPlan) (fields : FieldsAreRead) (tiles : Tiles) (read : Met
     state = restarted (new_node 16 image_a);
     found = refl;
     handed = omega arith;
-    idle = refl;
-    active = image_a;
-    others = [];
-    images = refl;
-    older = newer;
-    room = omega (arith, long);
+    can = record {
+      idle = refl;
+      active = image_a;
+      others = [];
+      images = refl;
+      older = newer;
+      room = omega (arith, long);
+      some_group = inr (omega arith);
+      in_group = inr refl;
+    };
     unicast = omega arith;
-    some_group = inr (omega arith);
-    in_group = inr refl;
   })
   takes a (inr (inr e)) = subst (Takes (plan_64 version image) (members_64 version image)) (sym e) (record {
     config = record { address = 4; group = 0xC000 };
@@ -61,15 +65,17 @@ module _ (laws : KeepsPlan) (fields : FieldsAreRead) (tiles : Tiles) (read : Met
     state = restarted (new_node 16 image_a);
     found = refl;
     handed = omega arith;
-    idle = refl;
-    active = image_a;
-    others = [];
-    images = refl;
-    older = newer;
-    room = omega (arith, long);
+    can = record {
+      idle = refl;
+      active = image_a;
+      others = [];
+      images = refl;
+      older = newer;
+      room = omega (arith, long);
+      some_group = inr (omega arith);
+      in_group = inr refl;
+    };
     unicast = omega arith;
-    some_group = inr (omega arith);
-    in_group = inr refl;
   })
 
   from : CanBegin (plan_64 version image) image (2 ∷ 3 ∷ 4 ∷ []) (members_64 version image)

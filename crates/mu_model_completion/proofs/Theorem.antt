@@ -205,8 +205,8 @@ module _ (plan : Plan) (image : List ℕ) (members : List Member) where
       let here : t.config.address ≡ a = address_is a t in
       let there : h.0.config.address ≡ b = address_is b h.0 in (
         (
-          subst (λ z. Misses z h.0.config) (sym here) (misses a h.0.config t.unicast (λ e. k.0 (e ∙ there)) h.0.some_group),
-          subst (λ z. Misses z t.config) (sym there) (misses b t.config h.0.unicast (λ e. k.0 (sym (e ∙ here))) t.some_group),
+          subst (λ z. Misses z h.0.config) (sym here) (misses a h.0.config t.unicast (λ e. k.0 (e ∙ there)) h.0.can.some_group),
+          subst (λ z. Misses z t.config) (sym there) (misses b t.config h.0.unicast (λ e. k.0 (sym (e ∙ here))) t.can.some_group),
         ),
         apart_from a t to h.1 k.1,
       )
@@ -229,7 +229,7 @@ module _ (plan : Plan) (image : List ℕ) (members : List Member) where
   all_reached : plan.sending.group ≢ 0 → (to : List ℕ) (h : AllByRecursion Takes_ to) → AllByRecursion (Reaches plan.sending.group) (configs (pairs to h))
   unfolding pairs
   all_reached some [] h = tt
-  all_reached some (a ∷ to) h = (group_reaches h.0.config some (its_group h.0.in_group), all_reached some to h.1)
+  all_reached some (a ∷ to) h = (group_reaches h.0.config some (its_group h.0.can.in_group), all_reached some to h.1)
     where
       its_group : (plan.sending.group ≡ 0) ⊎ (h.0.config.group ≡ plan.sending.group) → h.0.config.group ≡ plan.sending.group
       its_group (inl e) = absurd (some e)
@@ -309,13 +309,13 @@ module _ (laws : KeepsPlan) (fields : FieldsAreRead) (tiles : Tiles) (read : Met
 
   -- ---- the first station
 
-  offer : (a : ℕ) (t : Takes plan members a) → Offer p meta image t.state.durable.capacity t.active
+  offer : (a : ℕ) (t : Takes plan members a) → Offer p meta image t.state.durable.capacity t.can.active
   offer a t = record {
     metadata = read meta from.update.meta;
     size = from.update.size;
     fit = (tested image meta).1 from.update.fit;
-    room = (let r = t.room in grind (arith, nat_tests, r));
-    newer = (let o = t.older in grind (arith, nat_tests, o));
+    room = (let r = t.can.room in grind (arith, nat_tests, r));
+    newer = (let o = t.can.older in grind (arith, nat_tests, o));
     log = both_false (nat_lt p.log 12) (nat_lt 14 p.log) (let l = from.update.log_least in grind (arith, nat_tests, l)) (let l = from.update.log_most in grind (arith, nat_tests, l));
     chunk = both_false (nat_lt p.chunk 8) (nat_lt 376 p.chunk) (let l = from.update.chunk_least in grind (arith, nat_tests, l)) (let l = from.update.chunk_most in grind (arith, nat_tests, l));
   }
@@ -328,8 +328,8 @@ module _ (laws : KeepsPlan) (fields : FieldsAreRead) (tiles : Tiles) (read : Met
     record { r_is = ap (λ z. rcv z 10 [] [] false) (sym (address_is plan image members a t)) },
     record {
       capacity = t.state.durable.capacity;
-      active = t.active;
-      images = t.others;
+      active = t.can.active;
+      images = t.can.others;
       offer = offer a t;
       count = t.state.durable.count;
       fresh = t.state.fresh;
@@ -337,8 +337,8 @@ module _ (laws : KeepsPlan) (fields : FieldsAreRead) (tiles : Tiles) (read : Met
       m = t.state.moment;
       early = t.handed;
       n_is =
-          ap (λ job. record { durable = record { count = t.state.durable.count; capacity = t.state.durable.capacity; images = t.state.durable.images; job = job }; fresh = t.state.fresh; session = t.state.session; moment = t.state.moment }) t.idle
-          ∙ ap (λ images. record { durable = record { count = t.state.durable.count; capacity = t.state.durable.capacity; images = images; job = None }; fresh = t.state.fresh; session = t.state.session; moment = t.state.moment }) t.images;
+          ap (λ job. record { durable = record { count = t.state.durable.count; capacity = t.state.durable.capacity; images = t.state.durable.images; job = job }; fresh = t.state.fresh; session = t.state.session; moment = t.state.moment }) t.can.idle
+          ∙ ap (λ images. record { durable = record { count = t.state.durable.count; capacity = t.state.durable.capacity; images = images; job = None }; fresh = t.state.fresh; session = t.state.session; moment = t.state.moment }) t.can.images;
     },
   )
 

@@ -74,23 +74,27 @@ pub record IsUpdate (plan : Plan) (image : List ℕ) : Type 0 where
   pub fit : IsFit image plan.meta
   pub apply : plan.apply ≡ true
 
--- a node of these members takes the update: it is idle, its bank holds the image, its active version is lower; and it is in the
--- group, if there is one
-pub record Takes (plan : Plan) (members : List Member) (a : ℕ) : Type 0 where
-  pub config : NodeConfig
-  pub moment : ℕ
-  pub state : NodeState
-  pub found : at_address a members ≡ Some (record { config = config; moment = moment; part = IsNode state })
-  pub handed : state.moment ≤ moment
+-- a node takes the update: it is idle, its bank holds the image, its active version is lower; and it is in the group, if there is
+-- one
+pub record CanTake (plan : Plan) (config : NodeConfig) (state : NodeState) : Type 0 where
   pub idle : state.durable.job ≡ None
   pub active : Image
   pub others : List Image
   pub images : state.durable.images ≡ active ∷ others
   pub older : active.meta.version < plan.meta.version
   pub room : plan.meta.size ≤ state.durable.capacity
-  pub unicast : a < 0x8000
   pub some_group : (config.group ≡ 0) ⊎ (0xC000 ≤ config.group)
   pub in_group : (plan.sending.group ≡ 0) ⊎ (config.group ≡ plan.sending.group)
+
+-- at this address these members have a node that takes the update
+pub record Takes (plan : Plan) (members : List Member) (a : ℕ) : Type 0 where
+  pub config : NodeConfig
+  pub moment : ℕ
+  pub state : NodeState
+  pub found : at_address a members ≡ Some (record { config = config; moment = moment; part = IsNode state })
+  pub handed : state.moment ≤ moment
+  pub can : CanTake plan config state
+  pub unicast : a < 0x8000
 
 -- no address stands twice
 abbrev pub NoneTwice : List ℕ → Type 0

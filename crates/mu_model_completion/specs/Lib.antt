@@ -1,3 +1,4 @@
 pub mod Turn
 pub mod Worked
 pub mod Completion
+pub mod Answering
