@@ -1,13 +1,12 @@
 -- One receiver among others, and what of a list goes to its node.
-use Rattle.std.proofs.Common.{◌≡◌, ◌⊎◌, inl, inr, ◌+◌, ◌==◌, ℕ, zero, suc, List, [], ◌∷◌, ◌++◌, refl, sym, ap, ◌∙◌, subst, true, false, Bool, Option, Some, None, arith, map, take, drop}
-use Rattle.std.specs.Prelude.{◌&&◌, ◌||◌, not, if◌then◌else◌}
+use Rattle.std.proofs.Common.{◌≡◌, ◌⊎◌, inl, inr, ◌<◌, ◌≤◌, ◌+◌, ℕ, zero, suc, List, [], ◌∷◌, ◌++◌, refl, sym, ap, ◌∙◌, true, false, Bool, Option, Some, None, arith, map, take, drop}
+use Rattle.std.specs.Prelude.{◌||◌}
 use Rattle.std.specs.List.{flat_map, list_any, range_with_len, AllByRecursion}
-use Rattle.mu_model_wire.specs.Reports.{has}
 use Rattle.mu_model_node.specs.declared.NodeConfig.{NodeConfig}
 use Rattle.mu_model_node.specs.NodeMessages.{Request}
 use Rattle.mu_model_client.specs.declared.Sending.{Sending}
 use Rattle.mu_model_client.specs.Sets.{below}
-use Rattle.mu_model_client.specs.Client.{Receiver, is_active, is_pending, Item, Says, Sends, chunk_total}
+use Rattle.mu_model_client.specs.Client.{Receiver, is_pending, Item, Says, Sends, chunk_total}
 use Rattle.mu_model_client.specs.Lists as l
 use Rattle.mu_model_client.specs.Lists.{chunk_items, missing_of, lacking, lacks_chunk, messages}
 use Rattle.mu_model_completion.specs.Answering.{reaches}
@@ -151,7 +150,7 @@ module _ (config : NodeConfig) where
       by_case true e = ap (λ y. first_if y (Sends x.row.address b k) (mine (map (λ to. Sends to b k) (lacking missing_of xs k)))) h.0 ∙ e
       by_case false e = e
 
-  own_here : (b k : ℕ) (r : Receiver) (xs : List Receiver) → Here r xs → reaches r.row.address config ≡ true → lacks_chunk missing_of k r ≡ true
+  pub own_here : (b k : ℕ) (r : Receiver) (xs : List Receiver) → Here r xs → reaches r.row.address config ≡ true → lacks_chunk missing_of k r ≡ true
       → mine (map (λ to. Sends to b k) (lacking missing_of xs k)) ≡ Sends r.row.address b k ∷ []
   own_here b k r [] h e misses = absurd h
   own_here b k r (x ∷ xs) (inl h) e misses =
@@ -167,7 +166,9 @@ module _ (config : NodeConfig) where
       by_case false s = s
 
   -- of lists, one for each number, what goes to the node
-  pub mine_flat : (f : ℕ → List Item) (g : ℕ → Item) (m i : ℕ) → ((k : ℕ) → mine (f k) ≡ g k ∷ []) → mine (flat_map f (range_with_len i m)) ≡ map g (range_with_len i m)
+  pub mine_flat : (f : ℕ → List Item) (g : ℕ → Item) (m i : ℕ) → ((k : ℕ) → i ≤ k → k < i + m → mine (f k) ≡ g k ∷ []) → mine (flat_map f (range_with_len i m)) ≡ map g (range_with_len i m)
   mine_flat f g zero i h = refl
   mine_flat f g (suc m) i h =
-      mine_append (f i) (flat_map f (range_with_len (i + 1) m)) ∙ (ap (λ is. is ++ mine (flat_map f (range_with_len (i + 1) m))) (h i) ∙ ap (λ is. g i ∷ is) (mine_flat f g m (i + 1) h))
+      mine_append (f i) (flat_map f (range_with_len (i + 1) m))
+      ∙ (ap (λ is. is ++ mine (flat_map f (range_with_len (i + 1) m))) (h i (omega arith) (omega arith))
+      ∙ ap (λ is. g i ∷ is) (mine_flat f g m (i + 1) (λ k low high. h k (omega (arith, low)) (omega (arith, high)))))

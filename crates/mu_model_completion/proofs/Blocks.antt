@@ -117,7 +117,7 @@ module _ (fields : FieldsAreRead) (tiles : Tiles) (p : Sending) (meta : Meta) (i
   abbrev pub block_reply : ℕ → Reply
   block_reply b = ByBlob (BlockStatus 0 b p.chunk All)
 
-  there : (b n : ℕ) → nat_le (length (held_of b (suc n))) b ≡ false
+  pub there : (b n : ℕ) → nat_le (length (held_of b (suc n))) b ≡ false
   there b n = let h = places blk b 0 (suc n) in grind (arith, nat_tests, h)
 
   module _ (b n c : ℕ) (total : chunk_total p b ≡ suc c) (j : ℕ) (x : Pair) (w : BlockW b n j x) where
@@ -287,10 +287,10 @@ module _ (fields : FieldsAreRead) (tiles : Tiles) (p : Sending) (meta : Meta) (i
   chunk_request b k = OfBlob (ChunkTransfer k (chk b k))
 
   -- the octets are that chunk's
-  long_is : (b k : ℕ) → length (chk b k) ≡ chunk_length (block_length p.size p.log b) p.chunk k
+  pub long_is : (b k : ℕ) → length (chk b k) ≡ chunk_length (block_length p.size p.log b) p.chunk k
   long_is b k = tiles.chunk_long (block_of image p.log b) p.chunk k ∙ ap (λ m. chunk_length m p.chunk k) (tiles.block_long image p.log b ∙ ap (λ m. block_length m p.log b) whole)
 
-  below_places : (b k rem : ℕ) → nat_le (length (got_of b k (suc rem))) k ≡ false
+  pub below_places : (b k rem : ℕ) → nat_le (length (got_of b k (suc rem))) k ≡ false
   below_places b k rem = let h = places (chk b) k 0 (suc rem) in grind (arith, nat_tests, h)
 
   -- all chunks joined are the block

@@ -19,3 +19,11 @@ pub mod End
 pub mod Theorem
 pub mod SixtyFour
 pub mod Among
+pub mod Moments
+pub mod Hears
+pub mod Going
+pub mod Spots
+pub mod SpotAsks
+pub mod SpotTurns
+pub mod Planned
+pub mod Stays

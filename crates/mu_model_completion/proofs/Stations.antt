@@ -91,7 +91,7 @@ module _ (laws : KeepsPlan) (p : Sending) (meta : Meta) (config : NodeConfig) (i
         holds = turned laws config image s.now _ ps xs s.holds (λ r. r) (λ r. refl) e is_due (map_id (map receiver_in ps)) late;
       }
 
-  begun_place : (r : Receiver) (is_in_it : Bool) → (d.begun_if r is_in_it).row.address ≡ r.row.address
+  pub begun_place : (r : Receiver) (is_in_it : Bool) → (d.begun_if r is_in_it).row.address ≡ r.row.address
   begun_place r true = refl
   begun_place r false = refl
 

@@ -1,21 +1,20 @@
 -- Completion without loss, in push.
-use Rattle.std.proofs.Common.{◌≡◌, ◌⊎◌, inl, inr, ◌<◌, ◌≤◌, ◌+◌, ◌-◌, ◌*◌, ◌^◌, ◌==◌, ℕ, zero, suc, List, [], ◌∷◌, ◌++◌, refl, sym, ap, ◌∙◌, subst, true, false, Bool, Option, Some, None, arith, map, length, take, drop, lit≤}
-use Rattle.std.specs.Prelude.{◌≢◌, ◌&&◌, ◌||◌, not, if◌then◌else◌, nat_lt}
+use Rattle.std.proofs.Common.{◌≡◌, ◌⊎◌, inl, inr, ◌<◌, ◌≤◌, ◌+◌, ◌-◌, ◌*◌, ◌==◌, ℕ, zero, suc, List, [], ◌∷◌, ◌++◌, refl, sym, ap, ◌∙◌, subst, true, false, Bool, Option, Some, None, arith, map, length, take, drop}
+use Rattle.std.specs.Prelude.{◌≢◌, ◌&&◌, ◌||◌, not, if◌then◌else◌}
 use Rattle.std.specs.List.{flat_map, range_with_len, AllByRecursion}
 use Rattle.std.proofs.lemmas.Bool.{eq-eqb, eqb-true}
 use Rattle.std.proofs.lemmas.Bool.Decides.{nat_tests}
-use Rattle.std.proofs.lemmas.Nat.{pow_pos, mul-le}
-use Rattle.std.proofs.Math.Nat.{mul-le-mul_left, mul-le-mul_right, suc-mul, le-div_iff_mul-le, pow-le-pow_right}
+use Rattle.std.proofs.lemmas.Nat.{mul-le}
+use Rattle.std.proofs.Math.Nat.{mul-le-mul_left, mul-le-mul_right}
 use Rattle.mu_model_image.specs.declared.Meta.{Meta}
-use Rattle.mu_model_image.specs.Pieces.{piece_count, block_length}
 use Rattle.mu_model_image.specs.Laws.{MetaIsReadBack, FitIsTested}
-use Rattle.mu_model_wire.specs.Reports.{has, every_number}
+use Rattle.mu_model_wire.specs.Reports.{every_number}
 use Rattle.mu_model_node.specs.declared.NodeConfig.{NodeConfig}
 use Rattle.mu_model_client.specs.declared.Sending.{Sending}
 use Rattle.mu_model_client.specs.declared.Plan.{Plan}
 use Rattle.mu_model_client.specs.declared.Dropped.{Dropped}
 use Rattle.mu_model_client.specs.Rows.{Row as ShownRow}
-use Rattle.mu_model_client.specs.Client.{Client, Receiver, row_of, Update, Item, Sends, Before, At, Check, Chunks, block_total, chunk_total, full_chunks}
+use Rattle.mu_model_client.specs.Client.{Client, Receiver, row_of, Update, Item, Sends, Before, At, Check, Chunks, block_total, chunk_total}
 use Rattle.mu_model_client.specs.Begin.{start, at_first, new_active, purpose_of}
 use Rattle.mu_model_client.specs.Told.{held_percent}
 use Rattle.mu_model_client.specs.Lists as l
@@ -23,13 +22,15 @@ use Rattle.mu_model_client.specs.Lists.{chunk_items, missing_of, lacking}
 use Rattle.mu_model_client_laws.specs.Laws.{KeepsPlan, FieldsAreRead}
 use Rattle.mu_model_completion.specs.Turn.{Member, IsUpdater, turn, settle}
 use Rattle.mu_model_completion.specs.Completion.{Completed, drop_of, drops_in, drops_at, at_address, rows_at, rows_in, Takes, NoneTwice, CanBegin, sixteens, copies, push_turns, succeeded}
+use Rattle.mu_model_completion.proofs.Planned as pl
+use Rattle.mu_model_completion.proofs.Planned.{misses, no_more, some_chunk, has_every}
 use Rattle.mu_model_completion.proofs.Pairs.{Pair, receiver_in, IsHere}
 use Rattle.mu_model_completion.proofs.Nodes.{Offer}
 use Rattle.mu_model_completion.proofs.Receivers.{rcv, all_held}
 use Rattle.mu_model_completion.proofs.Stations.{Within, client_at, Station, first_items, turn_in}
 use Rattle.mu_model_completion.proofs.Asking.{Apart, Misses, configs}
 use Rattle.mu_model_completion.proofs.First.{Good, Row}
-use Rattle.mu_model_completion.proofs.Pieces.{lacking_from, all_are_held, fewer_pieces}
+use Rattle.mu_model_completion.proofs.Pieces.{lacking_from, all_are_held}
 use Rattle.mu_model_completion.proofs.Blocks.{Tiles, chunked_longer}
 use Rattle.mu_model_completion.proofs.Sixteens.{Reaches, begin_chunks}
 use Rattle.mu_model_completion.proofs.Alone.{own, Often, often_first, Waits, begin_alone}
@@ -39,11 +40,6 @@ use Rattle.mu_model_completion.proofs.Course.{Reached, First}
 use Rattle.mu_model_completion.proofs.End.{Final, SomeOver, course, some_always, turns_in_all}
 
 -- ---- the lists of chunks
-
-has_every : (n i k : ℕ) → k < n → has (every_number n) k ≡ true
-has_every zero i k lt = absurd (omega (arith, lt))
-has_every (suc n) i zero lt = refl
-has_every (suc n) i (suc k) lt = has_every n i k (omega (arith, lt))
 
 -- one item for each number
 each_one : {A : Type 0} (f : ℕ → List A) (g : ℕ → A) (n i : ℕ) → ((k : ℕ) → i ≤ k → k < i + n → f k ≡ g k ∷ []) → flat_map f (range_with_len i n) ≡ map g (range_with_len i n)
@@ -55,7 +51,7 @@ module _ (p : Sending) where
   to_group_once : (group k : ℕ) (bs : List Bool) (c : ℕ) (x : Pair) (ps : List Pair) → Row 2 bs (every_number (suc c)) true x → k < suc c
       → l.to_group group (lacking missing_of (map receiver_in (x ∷ ps)) k) ≡ group ∷ []
   to_group_once group k bs c x ps row lt =
-      let misses : l.lacks_chunk missing_of k x.r ≡ true = ap (l.lacks_chunk missing_of k) row.r_is ∙ has_every (suc c) 0 k lt in
+      let misses : l.lacks_chunk missing_of k x.r ≡ true = ap (l.lacks_chunk missing_of k) row.r_is ∙ has_every (suc c) k lt in
       ap (λ b. l.to_group group (l.lacking_if x.r.row.address b ++ lacking missing_of (map receiver_in ps) k)) misses
 
   group_lists : (p.group == 0) ≡ false → (b c : ℕ) → chunk_total p b ≡ suc c → (bs : List Bool) (ps : List Pair) → AllByRecursion (Row 2 bs (every_number (suc c)) true) ps → 1 ≤ length ps
@@ -75,51 +71,8 @@ module _ (p : Sending) where
       ap (λ m. flat_map f (range_with_len 0 m)) total
       ∙ each_one f (λ k. Sends a b k) (suc c) 0
       (λ k low high. ap (λ z. map (λ to. Sends to b k) (if z then lacking missing_of (x.r ∷ []) k else l.to_group p.group (lacking missing_of (x.r ∷ []) k))) g
-      ∙ (ap (λ z. map (λ to. Sends to b k) (l.lacking_if x.r.row.address z ++ [])) (ap (l.lacks_chunk missing_of k) row.r_is ∙ has_every (suc c) 0 k (omega (arith, high)))
+      ∙ (ap (λ z. map (λ to. Sends to b k) (l.lacking_if x.r.row.address z ++ [])) (ap (l.lacks_chunk missing_of k) row.r_is ∙ has_every (suc c) k (omega (arith, high)))
       ∙ ap (λ to. Sends to b k ∷ []) (ap (λ (r : Receiver). r.row.address) row.r_is ∙ place)))
-
--- ---- counts of blocks and chunks
-
-next_mul : (k part : ℕ) → (k + 1) * part ≡ k * part + part
-next_mul k part = let h = suc-mul k part in let e : suc k ≡ k + 1 = omega arith in rw e at h
-
-module _ (tiles : Tiles) (p : Sending) (chunk_some : 0 < p.chunk) where
-  some_length : (b : ℕ) → b < block_total p → 0 < block_length p.size p.log b
-  some_length b lt =
-      let within : b * 2 ^ p.log < p.size = (tiles.blocks_within p.size p.log b).0 lt in
-      let e = next_mul b (2 ^ p.log) in
-      let pos = pow_pos p.log in
-      omega (arith, within, e, pos)
-
-  some_chunk : (b : ℕ) → b < block_total p → 0 < chunk_total p b
-  some_chunk b lt =
-      let long = some_length b lt in
-      (tiles.chunks_within (block_length p.size p.log b) p.chunk 0 chunk_some).1 (omega (arith, long))
-
-  no_longer : (b : ℕ) → block_length p.size p.log b ≤ block_length p.size p.log 0
-  no_longer b = let e = next_mul b (2 ^ p.log) in let f = next_mul 0 (2 ^ p.log) in omega (arith, e, f)
-
-  no_more : (b : ℕ) → chunk_total p b ≤ chunk_total p 0
-  no_more b = fewer_pieces (block_length p.size p.log b) (block_length p.size p.log 0) p.chunk chunk_some (no_longer b)
-
-full_few : (p : Sending) → p.log ≤ 14 → 8 ≤ p.chunk → full_chunks p ≤ 2048
-full_few p log least =
-    let small : 2 ^ p.log ≤ 2 ^ 14 = pow-le-pow_right {n = 2} (lit≤ tt) log in
-    let fewer = fewer_pieces (2 ^ p.log) 16384 p.chunk (omega (arith, least)) (omega (arith, small)) in
-    let most : piece_count 16384 p.chunk ≤ 2048 = not_more p.chunk least in
-    omega (arith, fewer, most)
-  where
-    not_more : (c : ℕ) → 8 ≤ c → piece_count 16384 c ≤ 2048
-    not_more c least = elim (which (piece_count 16384 c)) [
-      | inl h ↦ h
-      | inr h ↦ (let k : 2049 * c ≤ 16384 + c - 1 = (le-div_iff_mul-le (positive c least)).0 h in absurd (omega (arith, k, least)))
-    ]
-      where
-        which : (n : ℕ) → (n ≤ 2048) ⊎ (2049 ≤ n)
-        which n = grind arith
-
-        positive : (c : ℕ) → 8 ≤ c → 0 < c
-        positive c least = omega (arith, least)
 
 -- ---- the pairs of an update that can begin
 
@@ -143,28 +96,9 @@ found_address : (a : ℕ) (xs : List Member) (x : Member) → at_address a xs �
 found_address a [] x h = absurd (none_some x h)
 found_address a (y ∷ xs) x h = found_here a y xs x (y.config.address == a) refl h (found_address a xs x)
 
-both_false : (a b : Bool) → a ≡ false → b ≡ false → (a || b) ≡ false
-both_false a b e f = rw (e, f) refl
-
 or_true : (a b : Bool) → b ≡ true → (a || b) ≡ true
 or_true true b h = refl
 or_true false b h = h
-
--- a message to a node's address misses the others
-misses : (a : ℕ) (c : NodeConfig) → a < 0x8000 → (a ≢ c.address) → (c.group ≡ 0) ⊎ (0xC000 ≤ c.group) → Misses a c
-misses a c unicast other group =
-    both_false (a == c.address) (not (c.group == 0) && (a == c.group)) (differs a c.address other) (no_group group)
-  where
-    differs : (a b : ℕ) → a ≢ b → (a == b) ≡ false
-    differs a b h = grind (arith, nat_tests, h)
-
-    no_group : (c.group ≡ 0) ⊎ (0xC000 ≤ c.group) → (not (c.group == 0) && (a == c.group)) ≡ false
-    no_group (inl e) = ap (λ z. not z && (a == c.group)) (eq-eqb c.group 0 e)
-    no_group (inr h) = and_false (not (c.group == 0)) (a == c.group) (grind (arith, nat_tests, h, unicast))
-      where
-        and_false : (x y : Bool) → y ≡ false → (x && y) ≡ false
-        and_false true y e = e
-        and_false false y e = refl
 
 module _ (plan : Plan) (image : List ℕ) (members : List Member) where
   abbrev Takes_ : ℕ → Type 0
@@ -248,31 +182,23 @@ module _ (laws : KeepsPlan) (fields : FieldsAreRead) (tiles : Tiles) (read : Met
   abbrev config : NodeConfig
   config = from.config
 
-  size_some : 0 < p.size
-  size_some = let s = from.update.meta.some in let e = from.update.size in omega (arith, s, e)
+  abbrev blocks : ℕ
+  blocks = pl.blocks tiles read tested plan image from.update
 
   chunk_some : 0 < p.chunk
-  chunk_some = let c = from.update.chunk_least in omega (arith, c)
+  chunk_some = pl.chunk_some tiles read tested plan image from.update
 
   whole : length image ≡ p.size
-  whole = from.update.fit.size ∙ sym from.update.size
-
-  total_some : 0 < block_total p
-  total_some = (tiles.blocks_within p.size p.log 0).1 (let s = size_some in omega (arith, s))
-
-  abbrev blocks : ℕ
-  blocks = block_total p - 1
+  whole = pl.whole tiles read tested plan image from.update
 
   total_is : block_total p ≡ suc blocks
-  total_is = let s = total_some in omega (arith, s)
+  total_is = pl.total_is tiles read tested plan image from.update
 
   good : Good p blocks
-  good = record {
-    push = eq-eqb p.mode 1 push;
-    no_pull = (let e = push in grind (arith, nat_tests, e));
-    long = both_false (nat_lt 376 p.chunk) (nat_lt 2048 (full_chunks p)) (let c = from.update.chunk_most in grind (arith, nat_tests, c)) (let f = full_few p from.update.log_most from.update.chunk_least in grind (arith, nat_tests, f));
-    total = total_is;
-  }
+  good = pl.good tiles read tested plan image from.update push
+
+  counts : (b : ℕ) → b < suc blocks → (c : ℕ) × (chunk_total p b ≡ suc c)
+  counts b lt = pl.counts tiles read tested plan image from.update b lt
 
   abbrev q : ℕ
   q = sixteens (length to)
@@ -301,24 +227,10 @@ module _ (laws : KeepsPlan) (fields : FieldsAreRead) (tiles : Tiles) (read : Met
   apart : Apart cs
   apart = all_apart plan image members to from.takes from.none_twice
 
-  counts : (b : ℕ) → b < suc blocks → (c : ℕ) × (chunk_total p b ≡ suc c)
-  counts b lt =
-      let t = total_is in
-      let s = some_chunk tiles p chunk_some b (omega (arith, lt, t)) in
-      (chunk_total p b - 1, omega (arith, s))
-
   -- ---- the first station
 
   offer : (a : ℕ) (t : Takes plan members a) → Offer p meta image t.state.durable.capacity t.can.active
-  offer a t = record {
-    metadata = read meta from.update.meta;
-    size = from.update.size;
-    fit = (tested image meta).1 from.update.fit;
-    room = (let r = t.can.room in grind (arith, nat_tests, r));
-    newer = (let o = t.can.older in grind (arith, nat_tests, o));
-    log = both_false (nat_lt p.log 12) (nat_lt 14 p.log) (let l = from.update.log_least in grind (arith, nat_tests, l)) (let l = from.update.log_most in grind (arith, nat_tests, l));
-    chunk = both_false (nat_lt p.chunk 8) (nat_lt 376 p.chunk) (let l = from.update.chunk_least in grind (arith, nat_tests, l)) (let l = from.update.chunk_most in grind (arith, nat_tests, l));
-  }
+  offer a t = pl.offer tiles read tested plan image from.update t.config t.state t.can
 
   abbrev First_ : Pair → Type 0
   First_ x = First laws fields tiles p meta config image blocks good whole chunk_some cs apart some q few fits q_some x
@@ -506,7 +418,7 @@ module _ (laws : KeepsPlan) (fields : FieldsAreRead) (tiles : Tiles) (read : Met
       → (k : ℕ) → k < suc c → lacking missing_of (map receiver_in bs) k ≡ addresses b (configs bs)
   all_lacking b n c total [] h k lt = refl
   all_lacking b n c total (x ∷ bs) h k lt =
-      ap (λ z. l.lacking_if x.r.row.address z ++ lacking missing_of (map receiver_in bs) k) (ap (l.lacks_chunk missing_of k) h.0.0.r_is ∙ has_every (suc c) 0 k lt)
+      ap (λ z. l.lacking_if x.r.row.address z ++ lacking missing_of (map receiver_in bs) k) (ap (l.lacks_chunk missing_of k) h.0.0.r_is ∙ has_every (suc c) k lt)
       ∙ cons_same (ap (λ (r : Receiver). r.row.address) h.0.0.r_is) (all_lacking b n c total bs h.1 k lt)
     where
       cons_same : {x y : ℕ} {xs ys : List ℕ} → x ≡ y → xs ≡ ys → (x ∷ xs) ≡ (y ∷ ys)

@@ -1,5 +1,6 @@
 //! Laws on whole updates in which nothing is lost: functions that do nothing, whose contracts are proved.
 
+ghost use Rattle.mu_model_completion.specs.Answering.{AnsweringStays};
 ghost use Rattle.mu_model_completion.specs.Completion.{PushCompletes, ThreeOver64KiB};
 ghost use Rattle.mu_model_completion.specs.Worked.{OneNodeCompletes, EqualVersionEnds, FirstBlock, ThreeComplete};
 
@@ -22,6 +23,19 @@ pub fn push_completes()
 /// Three receivers have 64 KiB after 71 turns, whatever the image.
 pub fn three_over_64_kib()
     ensures { ThreeOver64KiB }
+{
+    plans_stay();
+    fields_are_read();
+    metadata();
+    images();
+    blocks();
+    chunks();
+}
+
+/// In push, a receiver whose node takes the update and answers all that reaches it in time is never dropped, whoever else the
+/// client has, whatever they say, and whatever they lose.
+pub fn answering_stays()
+    ensures { AnsweringStays }
 {
     plans_stay();
     fields_are_read();

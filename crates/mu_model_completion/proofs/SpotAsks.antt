@@ -1,0 +1,367 @@
+-- What a receiver's node answers to what goes to it, and where the receiver stands then.
+use Rattle.std.proofs.Common.{◌≡◌, ◌⊎◌, inl, inr, ◌<◌, ◌+◌, ℕ, zero, suc, List, [], ◌∷◌, ◌++◌, refl, sym, ap, ◌∙◌, subst, true, false, Bool, Option, Some, None, arith, length}
+use Rattle.std.specs.Prelude.{nat_lt}
+use Rattle.mu_model_image.specs.declared.Meta.{Meta}
+use Rattle.mu_model_image.specs.Meta.{Image}
+use Rattle.mu_model_wire.specs.Reports.{every_number, no_number}
+use Rattle.mu_model_node.specs.declared.NodeConfig.{NodeConfig}
+use Rattle.mu_model_node.specs.declared.LastBlock.{LastBlock}
+use Rattle.mu_model_node.specs.NodeMessages.{OfBlob, Reply, ByUpdate, ByBlob}
+use Rattle.mu_model_node.specs.BlobMessages.{ChunkTransfer, BlobInformationStatus}
+use Rattle.mu_model_node.specs.UpdateMessages.{MetadataStatus}
+use Rattle.mu_model_node.specs.NodeState.{NodeState}
+use Rattle.mu_model_node.specs.NodeOutcome.{Outcome}
+use Rattle.mu_model_node.specs.Events.{at_moment, on_request}
+use Rattle.mu_model_client.specs.declared.Sending.{Sending}
+use Rattle.mu_model_client.specs.Sets.{has_some}
+use Rattle.mu_model_client.specs.Client.{Receiver, Item, Says, Sends, Place, At, Step, Transfer, Chunks, Get, chunk_total}
+use Rattle.mu_model_client.specs.Lists.{chunk_octets}
+use Rattle.mu_model_client_laws.specs.Laws.{KeepsPlan, FieldsAreRead}
+use Rattle.mu_model_completion.proofs.Nodes.{Offer, same}
+use Rattle.mu_model_completion.proofs.First.{Good}
+use Rattle.mu_model_completion.proofs.Pieces.{lacking_from, one_held, not_full}
+use Rattle.mu_model_completion.proofs.Blocks.{Tiles, blk}
+use Rattle.mu_model_completion.proofs.Receivers as r
+use Rattle.mu_model_completion.proofs.Receivers.{rcv}
+use Rattle.mu_model_completion.proofs.Among.{IsSends, AllSends, sends_left}
+use Rattle.mu_model_completion.proofs.Hears.{Both, asks_one, asks_all, tell, tell_if, tells}
+use Rattle.mu_model_completion.proofs.Moments as m
+use Rattle.mu_model_completion.proofs.Moments.{few, Quiet, Says as Replies}
+use Rattle.mu_model_completion.proofs.Spots as s
+use Rattle.mu_model_completion.proofs.Spots.{Ask, Checks, Starts, Informs, Transfers, Opens, Gets, Verifies, Applies, Confirms, Said, Checked, Started, Informed, Opened, Verified, Asked, Confirmed, Spot, First, Asking, After, Between, Chunking, Over}
+
+module _ (laws : KeepsPlan) (fields : FieldsAreRead) (tiles : Tiles) (p : Sending) (meta : Meta) (image : List ℕ) (blocks : ℕ) (good : Good p blocks) (whole : length image ≡ p.size) (chunk_some : 0 < p.chunk)
+    (capacity : ℕ) (active : Image) (images : List Image) (o : Offer p meta image capacity active) (config : NodeConfig) where
+  abbrev a : ℕ
+  a = config.address
+
+  abbrev u : ℕ
+  u = p.from
+
+  abbrev Spot_ : Type 0
+  Spot_ = Spot laws fields tiles p meta image blocks good whole chunk_some capacity active images o config
+
+  abbrev Ask_ : Type 0
+  Ask_ = Ask laws fields tiles p meta image blocks good whole chunk_some capacity active images o config
+
+  abbrev place_of : Spot_ → Place
+  place_of spot = s.place_of laws fields tiles p meta image blocks good whole chunk_some capacity active images o config spot
+
+  abbrev row_of : Spot_ → Receiver
+  row_of spot = s.row_of laws fields tiles p meta image blocks good whole chunk_some capacity active images o config spot
+
+  abbrev NodeOf : Spot_ → NodeState → Type 0
+  NodeOf spot n = s.NodeOf laws fields tiles p meta image blocks good whole chunk_some capacity active images o config spot n
+
+  abbrev NodeNow : Spot_ → NodeState → Type 0
+  NodeNow spot n = s.NodeNow laws fields tiles p meta image blocks good whole chunk_some capacity active images o config spot n
+
+  abbrev AskNow : Ask_ → NodeState → Type 0
+  AskNow ask n = s.AskNow laws fields tiles p meta image blocks good whole chunk_some capacity active images o config ask n
+
+  abbrev step_of : Ask_ → Step
+  step_of ask = s.step_of laws fields tiles p meta image blocks good whole chunk_some capacity active images o config ask
+
+  abbrev waiting : Ask_ → List Bool → Receiver
+  waiting ask chunks = s.waiting laws fields tiles p meta image blocks good whole chunk_some capacity active images o config ask chunks
+
+  abbrev request_item : Ask_ → Item
+  request_item ask = Says a (s.request_of laws fields tiles p meta image blocks good whole chunk_some capacity active images o config ask)
+
+  abbrev ListOf : ℕ → Spot_ → List Item → Type 0
+  ListOf to spot list = s.ListOf laws fields tiles p meta image blocks good whole chunk_some capacity active images o config to spot list
+
+  abbrev tell_ : Place → Reply → Receiver → Receiver
+  tell_ place reply x = tell laws p meta image config place reply x
+
+  abbrev Both_ : Type 0
+  Both_ = Both laws p meta image config
+
+  abbrev asks_ : Place → ℕ → List Item → Both_ → Both_
+  asks_ place now items x = asks_all laws p meta image config place now items x
+
+  abbrev one_ : Place → ℕ → Item → Both_ → Both_
+  one_ place now item x = asks_one laws p meta image config place now item x
+
+  -- ---- where it stands once it has answered
+
+  abbrev answers : Ask_ → List Bool → Spot_
+  answers Checks chunks = After Checked chunks
+  answers Starts chunks = After Started chunks
+  answers Informs chunks = After Informed chunks
+  answers Transfers chunks = Between Transfer tt 0 (suc blocks) (omega arith) [] refl
+  answers (Opens k n c sum total) chunks = After (Opened k n c sum total) chunks
+  answers (Gets k n c sum total) chunks = Between (Get k) tt (suc k) n (omega (arith, sum)) (no_number (suc c)) (r.none_some (suc c))
+  answers Verifies chunks = After Verified chunks
+  answers Applies chunks = After Asked chunks
+  answers Confirms chunks = After Confirmed chunks
+
+  -- where it stands after its node was asked some of a list
+  pub record Stood (to : ℕ) (place : Place) (rest : List Item) (x : Both_) : Type 0 where
+    pub spot : Spot_
+    pub place_is : place_of spot ≡ place
+    pub row_is : x.r ≡ row_of spot
+    pub list : ListOf to spot rest
+    pub node : NodeOf spot x.n
+
+  by_reply : (place : Place) (reply : Reply) (x : Receiver) (replies : List (ℕ × Reply)) → replies ≡ (u, reply) ∷ [] → tells laws p meta image config place replies x ≡ tell_ place reply x
+  by_reply place reply x replies e = ap (λ z. tells laws p meta image config place z x) e ∙ ap (λ z. tell_if laws p meta image config place reply x z) (same u)
+
+  -- it is told by its node's reply
+  record Told (place : Place) (row next : Receiver) (P : NodeState → Type 0) (e : Outcome) : Type 0 where
+    reply : Reply
+    replies : Replies u reply P e
+    told : tell_ place reply row ≡ next
+
+  size_fits : nat_lt capacity p.size ≡ false
+  size_fits = ap (nat_lt capacity) o.size ∙ o.room
+
+  abbrev asked : NodeState → ℕ → Ask_ → Outcome
+  asked n now ask = on_request (at_moment n now) u (s.request_of laws fields tiles p meta image blocks good whole chunk_some capacity active images o config ask)
+
+  abbrev Told_ : Ask_ → List Bool → NodeState → ℕ → Type 0
+  Told_ ask chunks n now = Told (At (step_of ask)) (waiting ask chunks) (row_of (answers ask chunks)) (NodeOf (answers ask chunks)) (asked n now ask)
+
+  replies_as : (reply : Reply) (P Q : NodeState → Type 0) → ((n : NodeState) → P n → Q n) → (e : Outcome) → Replies u reply P e → Replies u reply Q e
+  replies_as reply P Q f e h = record { next = f e.next h.next; says = h.says }
+
+  gets : (n k c : ℕ) (sum : k + suc n ≡ suc blocks) (total : chunk_total p k ≡ suc c) (chunks : List Bool) (x : NodeState) (now : ℕ) → AskNow (Gets k n c sum total) x → Told_ (Gets k n c sum total) chunks x now
+  gets zero k c sum total chunks x now h = record {
+    reply = m.get_reply fields tiles p meta image blocks good whole chunk_some capacity active images o u k;
+    replies =
+        replies_as _ (s.Sealed laws fields tiles p meta image blocks good whole chunk_some capacity active images o config (Some (s.last laws fields tiles p meta image blocks good whole chunk_some capacity active images o config k)))
+        (NodeOf (answers (Gets k zero c sum total) chunks)) (λ z w. (_, inr w)) _
+        (m.gets_last fields tiles p meta image blocks good whole chunk_some capacity active images o u (s.all_slots laws fields tiles p meta image blocks good whole chunk_some capacity active images o config) k x now h);
+    told = r.told_get p meta a k c (lacking_from k 1) total ∙ ap (λ bs. rcv a 2 bs (no_number (suc c)) false) (one_held k 0);
+  }
+  gets (suc n) k c sum total chunks x now h = record {
+    reply = m.get_reply fields tiles p meta image blocks good whole chunk_some capacity active images o u k;
+    replies =
+        replies_as _ (s.HoldsNow laws fields tiles p meta image blocks good whole chunk_some capacity active images o config (suc k) (suc n) (Some (s.last laws fields tiles p meta image blocks good whole chunk_some capacity active images o config k)))
+        (NodeOf (answers (Gets k (suc n) c sum total) chunks)) (λ z w. (_, w)) _
+        (m.gets_more fields tiles p meta image blocks good whole chunk_some capacity active images o u k n x now h);
+    told = r.told_get p meta a k c (lacking_from k (suc (suc n))) total ∙ ap (λ bs. rcv a 2 bs (no_number (suc c)) false) (one_held k (suc n));
+  }
+
+  told_by : (ask : Ask_) (chunks : List Bool) (x : NodeState) (now : ℕ) → AskNow ask x → Told_ ask chunks x now
+  told_by Checks chunks x now h = record {
+    reply = ByUpdate (MetadataStatus 0 0);
+    replies = m.checks fields tiles p meta image blocks good whole chunk_some capacity active images o u x now h;
+    told = r.told_check p meta a [] [];
+  }
+  told_by Starts chunks x now h = record {
+    reply = m.update_reply fields tiles p meta image blocks good whole chunk_some capacity active images o u 2;
+    replies = m.starts fields tiles p meta image blocks good whole chunk_some capacity active images o u x now h;
+    told = r.told_start p meta a [] [];
+  }
+  told_by Informs chunks x now h = record {
+    reply = ByBlob (BlobInformationStatus capacity);
+    replies = m.informs fields tiles p meta image blocks good whole chunk_some capacity active images o u x now h;
+    told = r.told_information p meta a [] [] capacity size_fits o.log good.long good.push;
+  }
+  told_by Transfers chunks x now h = record {
+    reply = m.transfer_reply fields tiles p meta image blocks good whole chunk_some capacity active images o u;
+    replies =
+        replies_as _ (s.Running laws fields tiles p meta image blocks good whole chunk_some capacity active images o config (s.held laws fields tiles p meta image blocks good whole chunk_some capacity active images o config 0 (suc blocks)) None)
+        (NodeOf (answers Transfers chunks)) (λ z w. (None, w)) _
+        (m.transfers fields tiles p meta image blocks good whole chunk_some capacity active images o u x now h);
+    told = r.told_transfer p meta fields a (suc blocks) [] [] good.total;
+  }
+  told_by (Opens k n c sum total) chunks x now h = record {
+    reply = m.block_reply fields tiles p meta image blocks good whole chunk_some capacity active images o u k;
+    replies =
+        replies_as _ (s.In laws fields tiles p meta image blocks good whole chunk_some capacity active images o config k n 0 (suc c) h.0) (NodeOf (answers (Opens k n c sum total) chunks)) (λ z w. (h.0, w)) _
+        (m.opens fields tiles p meta image blocks good whole chunk_some capacity active images o u k n c total h.0 x now h.1);
+    told = r.told_block p meta a k c (lacking_from k (suc n)) chunks total;
+  }
+  told_by (Gets k n c sum total) chunks x now h = gets n k c sum total chunks x now h
+  told_by Verifies chunks x now h = record {
+    reply = m.update_reply fields tiles p meta image blocks good whole chunk_some capacity active images o u 4;
+    replies =
+        replies_as _ (s.Sealed laws fields tiles p meta image blocks good whole chunk_some capacity active images o config h.0) (NodeOf (answers Verifies chunks)) (λ z w. (h.0, w)) _
+        (m.tells_verified fields tiles p meta image blocks good whole chunk_some capacity active images o u (s.all_slots laws fields tiles p meta image blocks good whole chunk_some capacity active images o config) h.0 x now h.1);
+    told = r.told_verify p meta a (s.none laws fields tiles p meta image blocks good whole chunk_some capacity active images o config) chunks;
+  }
+  told_by Applies chunks x now h = record {
+    reply = m.update_reply fields tiles p meta image blocks good whole chunk_some capacity active images o u 6;
+    replies =
+        replies_as _ (m.IsApplied fields tiles p meta image blocks good whole chunk_some capacity active images o u (s.all_slots laws fields tiles p meta image blocks good whole chunk_some capacity active images o config) h.0)
+        (NodeOf (answers Applies chunks)) (λ z w. inl (h.0, w)) _
+        (m.applies fields tiles p meta image blocks good whole chunk_some capacity active images o u (s.all_slots laws fields tiles p meta image blocks good whole chunk_some capacity active images o config) h.0 x now h.1);
+    told = r.told_apply p meta a (s.none laws fields tiles p meta image blocks good whole chunk_some capacity active images o config) chunks;
+  }
+  told_by Confirms chunks x now h = record {
+    reply = m.image_reply fields tiles p meta image blocks good whole chunk_some capacity active images o u;
+    replies = m.shows fields tiles p meta image blocks good whole chunk_some capacity active images o u (s.all_slots laws fields tiles p meta image blocks good whole chunk_some capacity active images o config) x now h;
+    told = r.told_confirm p meta a (suc (length images)) (s.none laws fields tiles p meta image blocks good whole chunk_some capacity active images o config) chunks;
+  }
+
+  -- ---- a step's message
+
+  answers_place : (ask : Ask_) (chunks : List Bool) → place_of (answers ask chunks) ≡ At (step_of ask)
+  answers_place Checks chunks = refl
+  answers_place Starts chunks = refl
+  answers_place Informs chunks = refl
+  answers_place Transfers chunks = refl
+  answers_place (Opens k n c sum total) chunks = refl
+  answers_place (Gets k n c sum total) chunks = refl
+  answers_place Verifies chunks = refl
+  answers_place Applies chunks = refl
+  answers_place Confirms chunks = refl
+
+  answers_list : (to : ℕ) (ask : Ask_) (chunks : List Bool) → ListOf to (answers ask chunks) []
+  answers_list to Checks chunks = refl
+  answers_list to Starts chunks = refl
+  answers_list to Informs chunks = refl
+  answers_list to Transfers chunks = tt
+  answers_list to (Opens k n c sum total) chunks = refl
+  answers_list to (Gets k n c sum total) chunks = tt
+  answers_list to Verifies chunks = refl
+  answers_list to Applies chunks = refl
+  answers_list to Confirms chunks = refl
+
+  abbrev head_or : Item → List Item → Item
+  head_or z [] = z
+  head_or z (y ∷ zs) = y
+
+  abbrev tail_of : List Item → List Item
+  tail_of [] = []
+  tail_of (y ∷ zs) = zs
+
+  nothing : (xs ys : List Item) → xs ++ ys ≡ [] → (xs ≡ []) × (ys ≡ [])
+  nothing [] ys e = (refl, e)
+  nothing (x ∷ xs) ys e = absurd (grind (arith, e))
+
+  cut_one : (i : Item) (xs ys : List Item) → xs ++ ys ≡ i ∷ [] → ((xs ≡ []) × (ys ≡ i ∷ [])) ⊎ ((xs ≡ i ∷ []) × (ys ≡ []))
+  cut_one i [] ys e = inl (refl, e)
+  cut_one i (x ∷ xs) ys e = inr (let n = nothing xs ys (ap tail_of e) in (cons_both x i xs (ap (head_or x) e) n.0, n.1))
+    where
+      cons_both : (x y : Item) (xs : List Item) → x ≡ y → xs ≡ [] → (x ∷ xs) ≡ y ∷ []
+      cons_both x y xs e f = rw (e, f) refl
+
+  asking_stood : (to : ℕ) (ask : Ask_) (chunks : List Bool) (n : NodeState) (now : ℕ) (xs ys : List Item) → AskNow ask n → xs ++ ys ≡ request_item ask ∷ []
+      → Stood to (At (step_of ask)) ys (asks_ (At (step_of ask)) now xs (record { r = waiting ask chunks; n = n }))
+  asking_stood to ask chunks n now xs ys h e = elim (cut_one (request_item ask) xs ys e) [
+    | inl k ↦ subst (λ z. Stood to (At (step_of ask)) ys (asks_ (At (step_of ask)) now z (record { r = waiting ask chunks; n = n }))) (sym k.0) (record {
+      spot = Asking ask chunks;
+      place_is = refl;
+      row_is = refl;
+      list = k.1;
+      node = s.node_now laws fields tiles p meta image blocks good whole chunk_some capacity active images o config (Asking ask chunks) n h;
+    })
+    | inr k ↦ (
+        let t = told_by ask chunks n now h in
+        subst (λ z. Stood to (At (step_of ask)) ys (asks_ (At (step_of ask)) now z (record { r = waiting ask chunks; n = n }))) (sym k.0) (record {
+          spot = answers ask chunks;
+          place_is = answers_place ask chunks;
+          row_is = by_reply (At (step_of ask)) t.reply (waiting ask chunks) (asked n now ask).replies t.replies.says ∙ t.told;
+          list = subst (ListOf to (answers ask chunks)) (sym k.1) (answers_list to ask chunks);
+          node = t.replies.next;
+        }))
+  ]
+
+  -- ---- chunks
+
+  abbrev HoldsNow : (k n : ℕ) → Option LastBlock → NodeState → Type 0
+  HoldsNow k n before x = s.HoldsNow laws fields tiles p meta image blocks good whole chunk_some capacity active images o config k n before x
+
+  by_none : (place : Place) (x : Receiver) (replies : List (ℕ × Reply)) → replies ≡ [] → tells laws p meta image config place replies x ≡ x
+  by_none place x replies e = ap (λ z. tells laws p meta image config place z x) e
+
+  -- of a block that isn't its own: they are passed over
+  passes_one : (k n : ℕ) (before : Option LastBlock) (x : NodeState) (now j : ℕ) (octets : List ℕ) → HoldsNow k n before x → Quiet (HoldsNow k n before) (on_request (at_moment x now) u (OfBlob (ChunkTransfer j octets)))
+  passes_one k zero before x now j octets h =
+      m.seals_chunk fields tiles p meta image blocks good whole chunk_some capacity active images o u (s.all_slots laws fields tiles p meta image blocks good whole chunk_some capacity active images o config) before x now j octets h
+  passes_one k (suc n) before x now j octets h =
+      m.passes_chunk fields tiles p meta image blocks good whole chunk_some capacity active images o u (s.held laws fields tiles p meta image blocks good whole chunk_some capacity active images o config k (suc n))
+      (not_full (blk fields tiles p meta image u blocks good 1 few whole chunk_some) k 0 n) before x now j octets h
+
+  record Passed (k n : ℕ) (before : Option LastBlock) (row : Receiver) (x : Both_) : Type 0 where
+    row_is : x.r ≡ row
+    node : HoldsNow k n before x.n
+
+  passes_item : (place : Place) (now k n : ℕ) (before : Option LastBlock) (row : Receiver) (i : Item) (x : Both_) → IsSends config i → Passed k n before row x → Passed k n before row (one_ place now i x)
+  passes_item place now k n before row (Says to request) x h e = absurd h
+  passes_item place now k n before row (Sends to b j) x h e =
+      let q = passes_one k n before x.n now j (chunk_octets p image b j) e.node in
+      record { row_is = by_none place x.r _ q.silent ∙ e.row_is; node = q.next }
+
+  passes_all : (place : Place) (now k n : ℕ) (before : Option LastBlock) (row : Receiver) (xs : List Item) (x : Both_) → AllSends config xs → Passed k n before row x → Passed k n before row (asks_ place now xs x)
+  passes_all place now k n before row [] x h e = e
+  passes_all place now k n before row (i ∷ is) x h e = passes_all place now k n before row is (one_ place now i x) h.1 (passes_item place now k n before row i x h.0 e)
+
+  between_stood : (to : ℕ) (step : Step) (is : s.IsBetween step) (k n : ℕ) (sum : k + n ≡ suc blocks) (chunks : List Bool) (without : has_some chunks ≡ false) (x : NodeState) (now : ℕ) (xs ys : List Item)
+      → NodeNow (Between step is k n sum chunks without) x → AllSends config (xs ++ ys)
+      → Stood to (At step) ys (asks_ (At step) now xs (record { r = row_of (Between step is k n sum chunks without); n = x }))
+  between_stood to step is k n sum chunks without x now xs ys h all =
+      let both = sends_left config xs ys all in
+      let q = passes_all (At step) now k n h.0 (row_of (Between step is k n sum chunks without)) xs (record { r = row_of (Between step is k n sum chunks without); n = x }) both.0 (record { row_is = refl; node = h.1 }) in
+      record {
+        spot = Between step is k n sum chunks without;
+        place_is = refl;
+        row_is = q.row_is;
+        list = both.1;
+        node = s.node_now laws fields tiles p meta image blocks good whole chunk_some capacity active images o config (Between step is k n sum chunks without) _ (h.0, q.node);
+      }
+
+  -- of its own block: the node takes them
+  abbrev Chunked : (k n j rem : ℕ) → NodeState → Type 0
+  Chunked k n j rem x = s.Chunked laws fields tiles p meta image blocks good whole chunk_some capacity active images o config k n j rem x
+
+  abbrev chunks_to : (to k j rem : ℕ) → List Item
+  chunks_to to k j rem = s.chunks_to laws fields tiles p meta image blocks good whole chunk_some capacity active images o config to k j rem
+
+  record Got (k n j rem : ℕ) (row : Receiver) (x : Both_) : Type 0 where
+    row_is : x.r ≡ row
+    node : Chunked k n j rem x.n
+
+  holds_all : (k n : ℕ) → k + suc n ≡ suc blocks → (x : NodeState)
+      → s.Running laws fields tiles p meta image blocks good whole chunk_some capacity active images o config (s.held laws fields tiles p meta image blocks good whole chunk_some capacity active images o config (suc k) n) (Some (s.last laws fields tiles p meta image blocks good whole chunk_some capacity active images o config k)) x
+      → s.Holds laws fields tiles p meta image blocks good whole chunk_some capacity active images o config (suc k) n (Some (s.last laws fields tiles p meta image blocks good whole chunk_some capacity active images o config k)) x
+  holds_all k zero sum x h =
+      let e : suc k ≡ suc blocks = omega (arith, sum) in
+      inl (subst (λ i. s.Running laws fields tiles p meta image blocks good whole chunk_some capacity active images o config (s.held laws fields tiles p meta image blocks good whole chunk_some capacity active images o config i zero) (Some (s.last laws fields tiles p meta image blocks good whole chunk_some capacity active images o config k)) x) e h)
+  holds_all k (suc n) sum x h = h
+
+  takes_one : (to k n c : ℕ) → k + suc n ≡ suc blocks → chunk_total p k ≡ suc c → (j rem now : ℕ) → j + suc rem ≡ suc c → (row : Receiver) (x : Both_) → Got k n j (suc rem) row x
+      → Got k n (suc j) rem row (one_ (At (Chunks k)) now (Sends to k j) x)
+  takes_one to k n c sum total j zero now all row x g =
+      let q = m.takes_last fields tiles p meta image blocks good whole chunk_some capacity active images o u k n c total j g.node.0 x.n now (omega (arith, all)) g.node.1 in
+      record { row_is = by_none (At (Chunks k)) x.r _ q.silent ∙ g.row_is; node = holds_all k n sum _ q.next }
+  takes_one to k n c sum total j (suc rem) now all row x g =
+      let q = m.takes_more fields tiles p meta image blocks good whole chunk_some capacity active images o u k n c total j g.node.0 x.n now rem g.node.1 in
+      record { row_is = by_none (At (Chunks k)) x.r _ q.silent ∙ g.row_is; node = (g.node.0, q.next) }
+
+  chunking_stood : (to k n c : ℕ) (sum : k + suc n ≡ suc blocks) (total : chunk_total p k ≡ suc c) (now : ℕ) (xs ys : List Item) (j rem : ℕ) → j + rem ≡ suc c → (x : Both_)
+      → Got k n j rem (rcv a 2 (lacking_from k (suc n)) (every_number (suc c)) true) x → xs ++ ys ≡ chunks_to to k j rem
+      → Stood to (At (Chunks k)) ys (asks_ (At (Chunks k)) now xs x)
+  chunking_stood to k n c sum total now [] ys j rem all x g e =
+      record { spot = Chunking k n c j rem sum total all; place_is = refl; row_is = g.row_is; list = e; node = g.node }
+  chunking_stood to k n c sum total now (i ∷ is) ys j zero all x g e = absurd (grind (arith, e))
+  chunking_stood to k n c sum total now (i ∷ is) ys j (suc rem) all x g e =
+      let first : i ≡ Sends to k j = ap (head_or i) e in
+      let next : j + 1 ≡ suc j = omega arith in
+      let rest : is ++ ys ≡ chunks_to to k (suc j) rem = ap tail_of e ∙ ap (λ z. chunks_to to k z rem) next in
+      subst (λ z. Stood to (At (Chunks k)) ys (asks_ (At (Chunks k)) now (z ∷ is) x)) (sym first)
+      (chunking_stood to k n c sum total now is ys (suc j) rem (omega (arith, all)) (one_ (At (Chunks k)) now (Sends to k j) x)
+      (takes_one to k n c sum total j rem now all (rcv a 2 (lacking_from k (suc n)) (every_number (suc c)) true) x g) rest)
+
+  -- ---- at any spot
+
+  pub stood : (to : ℕ) (spot : Spot_) (n : NodeState) (now : ℕ) (xs ys : List Item) → NodeNow spot n → ListOf to spot (xs ++ ys)
+      → Stood to (place_of spot) ys (asks_ (place_of spot) now xs (record { r = row_of spot; n = n }))
+  stood to First n now xs ys h e = (
+      let k = nothing xs ys e in
+      subst (λ z. Stood to (place_of First) ys (asks_ (place_of First) now z (record { r = row_of First; n = n }))) (sym k.0) (record { spot = First; place_is = refl; row_is = refl; list = k.1; node = h }))
+  stood to (Asking ask chunks) n now xs ys h e = asking_stood to ask chunks n now xs ys h e
+  stood to (After said chunks) n now xs ys h e = (
+      let k = nothing xs ys e in
+      subst (λ z. Stood to (place_of (After said chunks)) ys (asks_ (place_of (After said chunks)) now z (record { r = row_of (After said chunks); n = n }))) (sym k.0)
+      (record { spot = After said chunks; place_is = refl; row_is = refl; list = k.1; node = s.node_now laws fields tiles p meta image blocks good whole chunk_some capacity active images o config (After said chunks) n h }))
+  stood to (Between step is k n sum chunks without) x now xs ys h e = between_stood to step is k n sum chunks without x now xs ys h e
+  stood to (Chunking k n c j rem sum total all) x now xs ys h e =
+      chunking_stood to k n c sum total now xs ys j rem all (record { r = row_of (Chunking k n c j rem sum total all); n = x })
+      (record { row_is = refl; node = s.node_now laws fields tiles p meta image blocks good whole chunk_some capacity active images o config (Chunking k n c j rem sum total all) x h }) e
+  stood to (Over chunks) n now xs ys h e = (
+      let k = nothing xs ys e in
+      subst (λ z. Stood to (place_of (Over chunks)) ys (asks_ (place_of (Over chunks)) now z (record { r = row_of (Over chunks); n = n }))) (sym k.0) (record { spot = Over chunks; place_is = refl; row_is = refl; list = k.1; node = h }))
