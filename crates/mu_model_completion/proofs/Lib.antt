@@ -27,3 +27,4 @@ pub mod SpotAsks
 pub mod SpotTurns
 pub mod Planned
 pub mod Stays
+pub mod Whole

@@ -212,10 +212,10 @@ module _ (fields : FieldsAreRead) (tiles : Tiles) (p : Sending) (meta : Meta) (i
   between_time slots before short =
       running_time slots None before short (λ c f h m now le lt. n.running_time p meta image capacity active images o u 0 0 slots before c f h m now short le lt)
 
-  pub block_time : (slots : Slots) (b : CurrentBlock) (before : Option LastBlock) → is_full slots ≡ false → (s : NodeState) (now : ℕ) → IsRunning slots (Some b) before s → LinkStands now s
+  pub block_time : (p.mode == 2) ≡ false → (slots : Slots) (b : CurrentBlock) (before : Option LastBlock) → is_full slots ≡ false → (s : NodeState) (now : ℕ) → IsRunning slots (Some b) before s → LinkStands now s
       → Quiet (IsRunning slots (Some b) before) (node_timed now s)
-  block_time slots b before short =
-      running_time slots (Some b) before short (λ c f h m now le lt. n.block_time p meta image capacity active images o u 0 0 slots b before c f h m now good.no_pull short le lt)
+  block_time no_pull slots b before short =
+      running_time slots (Some b) before short (λ c f h m now le lt. n.block_time p meta image capacity active images o u 0 0 slots b before c f h m now no_pull short le lt)
 
   -- all is there: it is verified
   pub seals : (before : Option LastBlock) (s : NodeState) (now : ℕ) → IsRunning (held (suc blocks) 0) None before s → Quiet (IsSealed (held (suc blocks) 0) before) (node_timed now s)
@@ -336,14 +336,14 @@ module _ (fields : FieldsAreRead) (tiles : Tiles) (p : Sending) (meta : Meta) (i
           is = ap (λ slots. running_at (held k (suc m)) (Some (current k slots)) before h.count h.fresh (max h.moment now) (max h.moment now)) (put_here chunk j (suc rem));
         }))
 
-    pub takes_last : j ≡ c → IsRunning (held k (suc m)) (Some (current k (got k j 1))) before s
+    pub takes_last : (p.mode == 2) ≡ false → j ≡ c → IsRunning (held k (suc m)) (Some (current k (got k j 1))) before s
         → Quiet (IsRunning (held (suc k) m) None (Some (last k))) (asked_at s now (chunk_request k j))
-    takes_last at_end h =
+    takes_last no_pull at_end h =
         subst (λ z. Quiet (IsRunning (held (suc k) m) None (Some (last k))) (asked_at z now (chunk_request k j))) (sym h.is)
         (quiet_at (IsRunning (held (suc k) m) None (Some (last k))) _ _ _
         (asked_later (λ i. running_at (held k (suc m)) (Some (current k (got k j 1))) before h.count h.fresh h.heard i) (λ i l. refl) h.moment now u (chunk_request k j))
         (n.chunk_last p meta image capacity active images o u 0 0 (held k (suc m)) before h.count h.fresh h.heard (max h.moment now) k (got k j 1) j (chunk j)
-        good.no_pull (not_full (blk fields tiles p meta image u blocks good 1 few whole chunk_some) k 0 m) (below_places fields tiles p meta image u blocks good 1 few whole chunk_some k j 0)
+        no_pull (not_full (blk fields tiles p meta image u blocks good 1 few whole chunk_some) k 0 m) (below_places fields tiles p meta image u blocks good 1 few whole chunk_some k j 0)
         (eq-eqb _ _ (long_is fields tiles p meta image u blocks good 1 few whole chunk_some k j)) (at_next chunk j 0 0)
         (ap is_full (put_here chunk j 0) ∙ full chunk (suc j) 0))
         (record {

@@ -16,7 +16,7 @@ use Rattle.mu_model_client.specs.Client.{block_total, chunk_total, full_chunks}
 use Rattle.mu_model_completion.specs.Completion.{IsUpdate, CanTake}
 use Rattle.mu_model_completion.proofs.Asking.{Misses}
 use Rattle.mu_model_completion.proofs.Nodes.{Offer}
-use Rattle.mu_model_completion.proofs.First.{Good}
+use Rattle.mu_model_completion.proofs.First.{Good, Pushes}
 use Rattle.mu_model_completion.proofs.Pieces.{fewer_pieces}
 use Rattle.mu_model_completion.proofs.Blocks.{Tiles}
 
@@ -116,8 +116,11 @@ module _ (tiles : Tiles) (read : MetaIsReadBack) (tested : FitIsTested) (plan : 
   few_chunks =
       both_false (nat_lt 376 p.chunk) (nat_lt 2048 (full_chunks p)) (let c = update.chunk_most in grind (arith, nat_tests, c)) (let f = full_few p update.log_most update.chunk_least in grind (arith, nat_tests, f))
 
-  pub good : p.mode ≡ 1 → Good p blocks
-  good push = record { push = eq-eqb p.mode 1 push; no_pull = (let e = push in grind (arith, nat_tests, e)); long = few_chunks; total = total_is }
+  pub good : Good p blocks
+  good = record { long = few_chunks; total = total_is }
+
+  pub pushes : p.mode ≡ 1 → Pushes p
+  pushes push = record { push = eq-eqb p.mode 1 push; no_pull = (let e = push in grind (arith, nat_tests, e)) }
 
   pub counts : (b : ℕ) → b < suc blocks → (c : ℕ) × (chunk_total p b ≡ suc c)
   counts b lt =

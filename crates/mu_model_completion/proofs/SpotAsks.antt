@@ -1,5 +1,5 @@
 -- What a receiver's node answers to what goes to it, and where the receiver stands then.
-use Rattle.std.proofs.Common.{◌≡◌, ◌⊎◌, inl, inr, ◌<◌, ◌+◌, ℕ, zero, suc, List, [], ◌∷◌, ◌++◌, refl, sym, ap, ◌∙◌, subst, true, false, Bool, Option, Some, None, arith, length}
+use Rattle.std.proofs.Common.{◌≡◌, ◌==◌, ◌⊎◌, inl, inr, ◌<◌, ◌+◌, ℕ, zero, suc, List, [], ◌∷◌, ◌++◌, refl, sym, ap, ◌∙◌, subst, true, false, Bool, Option, Some, None, arith, length}
 use Rattle.std.specs.Prelude.{nat_lt}
 use Rattle.mu_model_image.specs.declared.Meta.{Meta}
 use Rattle.mu_model_image.specs.Meta.{Image}
@@ -157,7 +157,7 @@ module _ (laws : KeepsPlan) (fields : FieldsAreRead) (tiles : Tiles) (p : Sendin
   told_by Informs chunks x now h = record {
     reply = ByBlob (BlobInformationStatus capacity);
     replies = m.informs fields tiles p meta image blocks good whole chunk_some capacity active images o u x now h;
-    told = r.told_information p meta a [] [] capacity size_fits o.log good.long good.push;
+    told = r.told_information p meta a [] [] capacity size_fits o.log good.long;
   }
   told_by Transfers chunks x now h = record {
     reply = m.transfer_reply fields tiles p meta image blocks good whole chunk_some capacity active images o u;
@@ -323,45 +323,45 @@ module _ (laws : KeepsPlan) (fields : FieldsAreRead) (tiles : Tiles) (p : Sendin
       inl (subst (λ i. s.Running laws fields tiles p meta image blocks good whole chunk_some capacity active images o config (s.held laws fields tiles p meta image blocks good whole chunk_some capacity active images o config i zero) (Some (s.last laws fields tiles p meta image blocks good whole chunk_some capacity active images o config k)) x) e h)
   holds_all k (suc n) sum x h = h
 
-  takes_one : (to k n c : ℕ) → k + suc n ≡ suc blocks → chunk_total p k ≡ suc c → (j rem now : ℕ) → j + suc rem ≡ suc c → (row : Receiver) (x : Both_) → Got k n j (suc rem) row x
+  takes_one : (p.mode == 2) ≡ false → (to k n c : ℕ) → k + suc n ≡ suc blocks → chunk_total p k ≡ suc c → (j rem now : ℕ) → j + suc rem ≡ suc c → (row : Receiver) (x : Both_) → Got k n j (suc rem) row x
       → Got k n (suc j) rem row (one_ (At (Chunks k)) now (Sends to k j) x)
-  takes_one to k n c sum total j zero now all row x g =
-      let q = m.takes_last fields tiles p meta image blocks good whole chunk_some capacity active images o u k n c total j g.node.0 x.n now (omega (arith, all)) g.node.1 in
+  takes_one no_pull to k n c sum total j zero now all row x g =
+      let q = m.takes_last fields tiles p meta image blocks good whole chunk_some capacity active images o u k n c total j g.node.0 x.n now no_pull (omega (arith, all)) g.node.1 in
       record { row_is = by_none (At (Chunks k)) x.r _ q.silent ∙ g.row_is; node = holds_all k n sum _ q.next }
-  takes_one to k n c sum total j (suc rem) now all row x g =
+  takes_one no_pull to k n c sum total j (suc rem) now all row x g =
       let q = m.takes_more fields tiles p meta image blocks good whole chunk_some capacity active images o u k n c total j g.node.0 x.n now rem g.node.1 in
       record { row_is = by_none (At (Chunks k)) x.r _ q.silent ∙ g.row_is; node = (g.node.0, q.next) }
 
-  chunking_stood : (to k n c : ℕ) (sum : k + suc n ≡ suc blocks) (total : chunk_total p k ≡ suc c) (now : ℕ) (xs ys : List Item) (j rem : ℕ) → j + rem ≡ suc c → (x : Both_)
+  chunking_stood : (p.mode == 2) ≡ false → (to k n c : ℕ) (sum : k + suc n ≡ suc blocks) (total : chunk_total p k ≡ suc c) (now : ℕ) (xs ys : List Item) (j rem : ℕ) → j + rem ≡ suc c → (x : Both_)
       → Got k n j rem (rcv a 2 (lacking_from k (suc n)) (every_number (suc c)) true) x → xs ++ ys ≡ chunks_to to k j rem
       → Stood to (At (Chunks k)) ys (asks_ (At (Chunks k)) now xs x)
-  chunking_stood to k n c sum total now [] ys j rem all x g e =
+  chunking_stood no_pull to k n c sum total now [] ys j rem all x g e =
       record { spot = Chunking k n c j rem sum total all; place_is = refl; row_is = g.row_is; list = e; node = g.node }
-  chunking_stood to k n c sum total now (i ∷ is) ys j zero all x g e = absurd (grind (arith, e))
-  chunking_stood to k n c sum total now (i ∷ is) ys j (suc rem) all x g e =
+  chunking_stood no_pull to k n c sum total now (i ∷ is) ys j zero all x g e = absurd (grind (arith, e))
+  chunking_stood no_pull to k n c sum total now (i ∷ is) ys j (suc rem) all x g e =
       let first : i ≡ Sends to k j = ap (head_or i) e in
       let next : j + 1 ≡ suc j = omega arith in
       let rest : is ++ ys ≡ chunks_to to k (suc j) rem = ap tail_of e ∙ ap (λ z. chunks_to to k z rem) next in
       subst (λ z. Stood to (At (Chunks k)) ys (asks_ (At (Chunks k)) now (z ∷ is) x)) (sym first)
-      (chunking_stood to k n c sum total now is ys (suc j) rem (omega (arith, all)) (one_ (At (Chunks k)) now (Sends to k j) x)
-      (takes_one to k n c sum total j rem now all (rcv a 2 (lacking_from k (suc n)) (every_number (suc c)) true) x g) rest)
+      (chunking_stood no_pull to k n c sum total now is ys (suc j) rem (omega (arith, all)) (one_ (At (Chunks k)) now (Sends to k j) x)
+      (takes_one no_pull to k n c sum total j rem now all (rcv a 2 (lacking_from k (suc n)) (every_number (suc c)) true) x g) rest)
 
   -- ---- at any spot
 
-  pub stood : (to : ℕ) (spot : Spot_) (n : NodeState) (now : ℕ) (xs ys : List Item) → NodeNow spot n → ListOf to spot (xs ++ ys)
+  pub stood : (p.mode == 2) ≡ false → (to : ℕ) (spot : Spot_) (n : NodeState) (now : ℕ) (xs ys : List Item) → NodeNow spot n → ListOf to spot (xs ++ ys)
       → Stood to (place_of spot) ys (asks_ (place_of spot) now xs (record { r = row_of spot; n = n }))
-  stood to First n now xs ys h e = (
+  stood no_pull to First n now xs ys h e = (
       let k = nothing xs ys e in
       subst (λ z. Stood to (place_of First) ys (asks_ (place_of First) now z (record { r = row_of First; n = n }))) (sym k.0) (record { spot = First; place_is = refl; row_is = refl; list = k.1; node = h }))
-  stood to (Asking ask chunks) n now xs ys h e = asking_stood to ask chunks n now xs ys h e
-  stood to (After said chunks) n now xs ys h e = (
+  stood no_pull to (Asking ask chunks) n now xs ys h e = asking_stood to ask chunks n now xs ys h e
+  stood no_pull to (After said chunks) n now xs ys h e = (
       let k = nothing xs ys e in
       subst (λ z. Stood to (place_of (After said chunks)) ys (asks_ (place_of (After said chunks)) now z (record { r = row_of (After said chunks); n = n }))) (sym k.0)
       (record { spot = After said chunks; place_is = refl; row_is = refl; list = k.1; node = s.node_now laws fields tiles p meta image blocks good whole chunk_some capacity active images o config (After said chunks) n h }))
-  stood to (Between step is k n sum chunks without) x now xs ys h e = between_stood to step is k n sum chunks without x now xs ys h e
-  stood to (Chunking k n c j rem sum total all) x now xs ys h e =
-      chunking_stood to k n c sum total now xs ys j rem all (record { r = row_of (Chunking k n c j rem sum total all); n = x })
+  stood no_pull to (Between step is k n sum chunks without) x now xs ys h e = between_stood to step is k n sum chunks without x now xs ys h e
+  stood no_pull to (Chunking k n c j rem sum total all) x now xs ys h e =
+      chunking_stood no_pull to k n c sum total now xs ys j rem all (record { r = row_of (Chunking k n c j rem sum total all); n = x })
       (record { row_is = refl; node = s.node_now laws fields tiles p meta image blocks good whole chunk_some capacity active images o config (Chunking k n c j rem sum total all) x h }) e
-  stood to (Over chunks) n now xs ys h e = (
+  stood no_pull to (Over chunks) n now xs ys h e = (
       let k = nothing xs ys e in
       subst (λ z. Stood to (place_of (Over chunks)) ys (asks_ (place_of (Over chunks)) now z (record { r = row_of (Over chunks); n = n }))) (sym k.0) (record { spot = Over chunks; place_is = refl; row_is = refl; list = k.1; node = h }))

@@ -86,7 +86,8 @@ missed_are (suc k) n (suc b) e = let h = missed_are k n b e in let low = h.0 in 
 module _ (laws : KeepsPlan) (fields : FieldsAreRead) (tiles : Tiles) (p : Sending) (meta : Meta) (image : List ℕ) (blocks : ℕ) (good : Good p blocks) (whole : length image ≡ p.size) (chunk_some : 0 < p.chunk)
     (capacity : ℕ) (active : Image) (images : List Image) (o : Offer p meta image capacity active) (config : NodeConfig)
     (counts : (b : ℕ) → b < suc blocks → (c : ℕ) × (chunk_total p b ≡ suc c))
-    (to : ℕ) (whose : ((p.group == 0) ≡ true × (to ≡ config.address)) ⊎ ((p.group == 0) ≡ false × (to ≡ p.group) × (reaches p.group config ≡ true))) where
+    (to : ℕ) (whose : ((p.group == 0) ≡ true × (to ≡ config.address)) ⊎ ((p.group == 0) ≡ false × (to ≡ p.group) × (reaches p.group config ≡ true)))
+    (push : (p.mode == 1) ≡ true) where
   abbrev a : ℕ
   a = config.address
 
@@ -332,7 +333,7 @@ module _ (laws : KeepsPlan) (fields : FieldsAreRead) (tiles : Tiles) (p : Sendin
     chunks_or b false = next_block
 
     in_push : (b : ℕ) → d.chunk_step p b ≡ Chunks b
-    in_push b = ap (λ z. if z then Chunks b else Pull b) good.push
+    in_push b = ap (λ z. if z then Chunks b else Pull b) push
 
     between_next : (step : Step) → IsBetween step → Moves (d.after p (Update meta true) rs step)
     between_next Transfer is = next_block
@@ -394,7 +395,7 @@ module _ (laws : KeepsPlan) (fields : FieldsAreRead) (tiles : Tiles) (p : Sendin
   said_next (Opened k m c sum total) chunks queue began moment rs here n node =
       let misses : list_any misses_chunks rs ≡ true = passed_here config misses_chunks (answered (Opened k m c sum total) chunks) rs here refl in
       subst (λ next. Moved (d.goes_on (client_ (At (Block k)) queue began moment rs) image next) n)
-      (sym (ap (λ z. if z then Go (d.chunk_step p k) else d.next_block p (Update meta true) rs) misses ∙ ap (λ z. Go (if z then Chunks k else Pull k)) good.push))
+      (sym (ap (λ z. if z then Go (d.chunk_step p k) else d.next_block p (Update meta true) rs) misses ∙ ap (λ z. Go (if z then Chunks k else Pull k)) push))
       (chunks_next k m c sum total queue began moment rs here n node)
   said_next Verified chunks queue began moment rs here n node = asks_next Applies chunks _ refl refl refl (At Verify) queue began moment rs here n node
   said_next Asked chunks queue began moment rs here n node = asks_next Confirms chunks _ refl refl refl (At Apply) queue began moment rs here n node

@@ -1,6 +1,6 @@
 -- Where a receiver that answers stands in an update in push: what the client knows of it, what is still to be sent to its node,
 -- and what its node is in.
-use Rattle.std.proofs.Common.{◌≡◌, ◌⊎◌, inl, inr, ◌<◌, ◌+◌, ℕ, zero, suc, List, [], ◌∷◌, true, false, Bool, Option, Some, None, map, length}
+use Rattle.std.proofs.Common.{◌≡◌, ◌==◌, ◌⊎◌, inl, inr, ◌<◌, ◌+◌, ℕ, zero, suc, List, [], ◌∷◌, true, false, Bool, Option, Some, None, map, length}
 use Rattle.std.specs.List.{range_with_len}
 use Rattle.mu_model_image.specs.declared.Meta.{Meta}
 use Rattle.mu_model_image.specs.Meta.{Image, meta_octets}
@@ -305,7 +305,8 @@ module _ (laws : KeepsPlan) (fields : FieldsAreRead) (tiles : Tiles) (p : Sendin
 
   -- ---- time
 
-  module _ (s : NodeState) (now : ℕ) (stands : m.LinkStands fields tiles p meta image blocks good whole chunk_some capacity active images o u now s) where
+  module _ (s : NodeState) (now : ℕ) (stands : m.LinkStands fields tiles p meta image blocks good whole chunk_some capacity active images o u now s)
+      (no_pull : (p.mode == 2) ≡ false) where
     abbrev Timed : (NodeState → Type 0) → Type 0
     Timed P = Quiet P (node_timed now s)
 
@@ -322,7 +323,7 @@ module _ (laws : KeepsPlan) (fields : FieldsAreRead) (tiles : Tiles) (p : Sendin
     running_timed k n before h = m.between_time fields tiles p meta image blocks good whole chunk_some capacity active images o u (held k (suc n)) before (short k n) s now h stands
 
     in_timed : (k n j rem : ℕ) (before : Option LastBlock) → In k n j rem before s → Timed (In k n j rem before)
-    in_timed k n j rem before h = m.block_time fields tiles p meta image blocks good whole chunk_some capacity active images o u (held k (suc n)) _ before (short k n) s now h stands
+    in_timed k n j rem before h = m.block_time fields tiles p meta image blocks good whole chunk_some capacity active images o u no_pull (held k (suc n)) _ before (short k n) s now h stands
 
     sealed_timed : (before : Option LastBlock) → Sealed before s → Timed (Sealed before)
     sealed_timed before h = m.sealed_time fields tiles p meta image blocks good whole chunk_some capacity active images o u all_slots before s now h

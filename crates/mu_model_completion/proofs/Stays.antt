@@ -20,7 +20,7 @@ use Rattle.mu_model_client_laws.specs.Laws.{KeepsPlan, FieldsAreRead}
 use Rattle.mu_model_completion.specs.Answering.{Answering, Turn, told_replies, said_by, asked, reaches, with_others, client_timed, node_timed, turn, turns, FromOthers, InTime, IsActiveAt, StaysActive, IsUnicast, with_index}
 use Rattle.mu_model_completion.specs.Completion.{IsUpdate, CanTake, NoneTwice}
 use Rattle.mu_model_completion.proofs.Nodes.{Offer}
-use Rattle.mu_model_completion.proofs.First.{Good}
+use Rattle.mu_model_completion.proofs.First.{Good, Pushes}
 use Rattle.mu_model_completion.proofs.Blocks.{Tiles}
 use Rattle.mu_model_completion.proofs.Receivers.{rcv}
 use Rattle.mu_model_completion.proofs.Planned as pl
@@ -36,24 +36,24 @@ use Rattle.mu_model_completion.proofs.SpotTurns.{Spot_, place_of, row_of, ListOf
 module _ (laws : KeepsPlan) (fields : FieldsAreRead) (tiles : Tiles) (p : Sending) (meta : Meta) (image : List ℕ) (blocks : ℕ) (good : Good p blocks) (whole : length image ≡ p.size) (chunk_some : 0 < p.chunk)
     (capacity : ℕ) (active : Image) (images : List Image) (o : Offer p meta image capacity active) (config : NodeConfig)
     (counts : (b : ℕ) → b < suc blocks → (c : ℕ) × (chunk_total p b ≡ suc c))
-    (to : ℕ) (whose : ((p.group == 0) ≡ true × (to ≡ config.address)) ⊎ ((p.group == 0) ≡ false × (to ≡ p.group) × (reaches p.group config ≡ true))) where
+    (to : ℕ) (whose : ((p.group == 0) ≡ true × (to ≡ config.address)) ⊎ ((p.group == 0) ≡ false × (to ≡ p.group) × (reaches p.group config ≡ true))) (pushes : Pushes p) where
   abbrev a : ℕ
   a = config.address
 
   abbrev pub Spot : Type 0
-  Spot = Spot_ laws fields tiles p meta image blocks good whole chunk_some capacity active images o config counts to whose
+  Spot = Spot_ laws fields tiles p meta image blocks good whole chunk_some capacity active images o config counts to whose pushes.push
 
   abbrev place : Spot → Place
-  place spot = place_of laws fields tiles p meta image blocks good whole chunk_some capacity active images o config counts to whose spot
+  place spot = place_of laws fields tiles p meta image blocks good whole chunk_some capacity active images o config counts to whose pushes.push spot
 
   abbrev row : Spot → Receiver
-  row spot = row_of laws fields tiles p meta image blocks good whole chunk_some capacity active images o config counts to whose spot
+  row spot = row_of laws fields tiles p meta image blocks good whole chunk_some capacity active images o config counts to whose pushes.push spot
 
   abbrev NodeOf : Spot → NodeState → Type 0
   NodeOf spot n = s.NodeOf laws fields tiles p meta image blocks good whole chunk_some capacity active images o config spot n
 
   abbrev ListIs : Spot → List Item → Type 0
-  ListIs spot list = ListOf laws fields tiles p meta image blocks good whole chunk_some capacity active images o config counts to whose spot list
+  ListIs spot list = ListOf laws fields tiles p meta image blocks good whole chunk_some capacity active images o config counts to whose pushes.push spot list
 
   -- it stands there between turns
   pub record Spotted (x : Answering) : Type 0 where
@@ -92,8 +92,8 @@ module _ (laws : KeepsPlan) (fields : FieldsAreRead) (tiles : Tiles) (p : Sendin
       let now : ℕ = t.now in
       let e : Outcome = node_timed now x.node in
       let d : Due = due x.client image now in
-      let q = s.spot_timed laws fields tiles p meta image blocks good whole chunk_some capacity active images o config x.node now stands spotted.spot spotted.node in
-      let moved = spot_moved laws fields tiles p meta image blocks good whole chunk_some capacity active images o config counts to whose now x.client spotted.queue e.next spotted.spot spotted.client spotted.list q.next in
+      let q = s.spot_timed laws fields tiles p meta image blocks good whole chunk_some capacity active images o config x.node now stands pushes.no_pull spotted.spot spotted.node in
+      let moved = spot_moved laws fields tiles p meta image blocks good whole chunk_some capacity active images o config counts to whose pushes.push now x.client spotted.queue e.next spotted.spot spotted.client spotted.list q.next in
       let sent = moved.sent in
       let r : Receiver = row moved.spot in
       let f = row_is moved.spot in
@@ -103,7 +103,7 @@ module _ (laws : KeepsPlan) (fields : FieldsAreRead) (tiles : Tiles) (p : Sendin
       let asked0 : WasAsked laws p meta image config (place moved.spot) sent.queue (record { r = r; n = e.next }) y =
       record { client = subst (Stands laws p meta image config (place moved.spot) sent.queue r) (sym told_is) stands_next; at_ = f.0; node = refl } in
       let asked1 = all_asked laws p meta image config (place moved.spot) sent.queue now sent.items (record { r = r; n = e.next }) y asked0 in
-      let st = stood laws fields tiles p meta image blocks good whole chunk_some capacity active images o config to moved.spot e.next now (mine config sent.items) (mine config sent.queue) moved.node (subst (ListIs moved.spot) (sym sent.split) moved.list_is) in
+      let st = stood laws fields tiles p meta image blocks good whole chunk_some capacity active images o config pushes.no_pull to moved.spot e.next now (mine config sent.items) (mine config sent.queue) moved.node (subst (ListIs moved.spot) (sym sent.split) moved.list_is) in
       let z : Answering = asked config now y (map (sent_for p image) sent.items) in
       let same : client_timed config now e d ≡ z = ap (asked config now y) sent.packets_are in
       let client_z : Stands laws p meta image config (place st.spot) sent.queue (row st.spot) z.client =
@@ -192,12 +192,13 @@ module _ (laws : KeepsPlan) (fields : FieldsAreRead) (tiles : Tiles) (read : Met
       let g = group_reached can.in_group (p.group == 0) refl in
       let x : Answering = record { client = start plan (map with_index to); node = node } in
       let offer = pl.offer tiles read tested plan image update config node can in
-      let good = pl.good tiles read tested plan image update push in
+      let good = pl.good tiles read tested plan image update in
+      let pushes = pl.pushes tiles read tested plan image update push in
       let whole = pl.whole tiles read tested plan image update in
       let chunk_some = pl.chunk_some tiles read tested plan image update in
       let blocks : ℕ = pl.blocks tiles read tested plan image update in
       let counts = pl.counts tiles read tested plan image update in
-      let first : Spotted laws fields tiles p plan.meta image blocks good whole chunk_some node.durable.capacity can.active can.others offer config counts g.0 g.1 x = record {
+      let first : Spotted laws fields tiles p plan.meta image blocks good whole chunk_some node.durable.capacity can.active can.others offer config counts g.0 g.1 pushes x = record {
         spot = First;
         queue = [];
         client = record {
@@ -218,5 +219,5 @@ module _ (laws : KeepsPlan) (fields : FieldsAreRead) (tiles : Tiles) (read : Met
               ∙ ap (λ images. record { durable = record { count = node.durable.count; capacity = node.durable.capacity; images = images; job = None }; fresh = node.fresh; session = node.session; moment = node.moment }) can.images;
         };
       } in
-      spotted_active laws fields tiles p plan.meta image blocks good whole chunk_some node.durable.capacity can.active can.others offer config counts g.0 g.1 _
-      (all_spotted laws fields tiles p plan.meta image blocks good whole chunk_some node.durable.capacity can.active can.others offer config counts g.0 g.1 ts x first others in_time)
+      spotted_active laws fields tiles p plan.meta image blocks good whole chunk_some node.durable.capacity can.active can.others offer config counts g.0 g.1 pushes _
+      (all_spotted laws fields tiles p plan.meta image blocks good whole chunk_some node.durable.capacity can.active can.others offer config counts g.0 g.1 pushes ts x first others in_time)
