@@ -157,14 +157,19 @@ module _ (fields : FieldsAreRead) (tiles : Tiles) (p : Sending) (meta : Meta) (i
       let e : suc (a + j) ≡ a + suc j = omega arith in
       ((h.0, subst (λ n. Runs fields p meta image u blocks good most few held h.0 n (pair_time v u x)) e t.0), t.1)
 
+  -- while it waits
+  pub block_waits : (b n j : ℕ) (x : Pair) → j < most → BlockW b n j x → BlockW b n (suc j) (pair_time (view p meta (Block b)) u x) × ((pair_time (view p meta (Block b)) u x).r ≡ x.r)
+  block_waits b n j x lt w =
+      let t = run_later (view p meta (Block b)) x (held_of b (suc n)) most j (not_full blk b 0 n) (omega (arith, lt, few)) w.1 in
+      (((w.0.0, row_later fields p meta image u blocks good most few (view p meta (Block b)) x 2 (lacking_from b (suc n)) w.0.0 true t.1 w.0.1), t.0), t.1)
+
   pub block_asking : (p.mode == 2) ≡ false → (b n c : ℕ) → chunk_total p b ≡ suc c → Asking p meta u (Block b) (block_request b) (BlockW b n) (BlockD b n c) most
   block_asking no_pull b n c total = record {
     waits = λ j x w. row_pending fields p meta image u blocks good most few 2 (lacking_from b (suc n)) w.0.0 true x w.0.1;
     is_done = λ j x w. row_pending fields p meta image u blocks good most few 2 (lacking_from b (suc n)) (every_number (suc c)) false x w.0;
     place = λ j x w. row_place 2 (lacking_from b (suc n)) w.0.0 true x w.0.1;
     message = λ j x w. refl;
-    time_waits = λ j x lt w. (let t = run_later (view p meta (Block b)) x (held_of b (suc n)) most j (not_full blk b 0 n) (omega (arith, lt, few)) w.1 in
-        (((w.0.0, row_later fields p meta image u blocks good most few (view p meta (Block b)) x 2 (lacking_from b (suc n)) w.0.0 true t.1 w.0.1), t.0), t.1));
+    time_waits = λ j x lt w. block_waits b n j x lt w;
     time_done = λ j x lt w. (let t = in_block_later (view p meta (Block b)) x b n 0 (suc c) j (omega (arith, lt, few)) w.1 in
         ((row_later fields p meta image u blocks good most few (view p meta (Block b)) x 2 (lacking_from b (suc n)) (every_number (suc c)) false t.1 w.0, t.0), t.1));
     asked = λ j x w. block_answered b n c total (suc j) x w no_pull;

@@ -17,7 +17,7 @@ use Rattle.mu_model_completion.proofs.Pairs.{Pair, receiver_in}
 use Rattle.mu_model_completion.proofs.Receivers.{rcv}
 use Rattle.mu_model_completion.proofs.Stations.{Within, and_then, so, client_at, Station, begins, leads_on, leads_first}
 use Rattle.mu_model_completion.proofs.Asking.{Asking, Apart, configs, Finished, whole_step}
-use Rattle.mu_model_completion.proofs.First.{Good, Row, Idle, Taken, CheckW, CheckD, StartW, StartD, InformationW, InformationD, TransferW, TransferD, check_request, start_request, transfer_request, check_asking, start_asking, information_asking, transfer_asking, taken_longer}
+use Rattle.mu_model_completion.proofs.First.{Good, Row, Rested, Idle, Taken, CheckW, CheckD, StartW, StartD, InformationW, InformationD, TransferW, TransferD, check_request, start_request, transfer_request, check_asking, start_asking, information_asking, transfer_asking, taken_longer}
 use Rattle.mu_model_completion.proofs.Blocks.{Tiles}
 
 module _ (laws : KeepsPlan) (fields : FieldsAreRead) (tiles : Tiles) (p : Sending) (meta : Meta) (config : NodeConfig) (image : List ℕ) (blocks : ℕ) (good : Good p blocks)
@@ -92,6 +92,10 @@ module _ (laws : KeepsPlan) (fields : FieldsAreRead) (tiles : Tiles) (p : Sendin
   pub row_begun : (step : Step) (phase : ℕ) (bs chunks : List Bool) (x : Pair) → Row phase bs chunks false x
       → is_in step (rcv x.config.address phase bs chunks false) ≡ true → Row phase bs chunks true (begins laws p meta config image step x)
   row_begun step phase bs chunks x h e = row_begun_by false step phase bs chunks x h e
+
+  pub rested_begun : (step : Step) (phase : ℕ) (bs chunks : List Bool) (x : Pair) → Rested phase bs chunks x
+      → ((heard : Bool) → is_in step (record (rcv x.config.address phase bs chunks false) { heard = heard }) ≡ true) → Row phase bs chunks true (begins laws p meta config image step x)
+  rested_begun step phase bs chunks x h e = record { r_is = ap (d.begun step) h.r_is ∙ ap (d.begun_if (record (rcv x.config.address phase bs chunks false) { heard = h.heard })) (e h.heard) }
 
   -- a step that is done leads to the next one
   pub next_leads : (last next : Step) (P : Pair → Type 0) → ((x : Pair) → P x → (x.r.pending ≡ false) × (is_active x.r ≡ true))

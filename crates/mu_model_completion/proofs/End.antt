@@ -23,7 +23,7 @@ use Rattle.mu_model_completion.proofs.First.{Good, Row, Runs, TransferD}
 use Rattle.mu_model_completion.proofs.Pieces.{lacking_from, none_missed, find_none, full}
 use Rattle.mu_model_completion.proofs.Blocks.{Tiles, held_of, last_of, blk, IsVerified, Sealing, image_joined}
 use Rattle.mu_model_completion.proofs.Last.{VerifyW, VerifyD, verify_asking, IsActive, Applies, ApplyW, ApplyD, apply_asking, ConfirmW, ConfirmD, confirm_asking, applies_later}
-use Rattle.mu_model_completion.proofs.Course.{Reached, Answered, go_step, next_leads, row_is, row_begun, First, four, nobody_pending}
+use Rattle.mu_model_completion.proofs.Course.{Reached, Answered, go_step, next_leads, row_is, row_begun, rested_begun, First, four, nobody_pending}
 use Rattle.mu_model_completion.proofs.Middle.{EndsBlock, Between, AllHeld, Ended_blocks, first_between, after_is, counts_done, reached_as}
 
 module _ (laws : KeepsPlan) (fields : FieldsAreRead) (tiles : Tiles) (p : Sending) (meta : Meta) (config : NodeConfig) (image : List ℕ) (blocks : ℕ) (good : Good p blocks)
@@ -118,7 +118,7 @@ module _ (laws : KeepsPlan) (fields : FieldsAreRead) (tiles : Tiles) (p : Sendin
     verified s e xs r =
         go_step laws fields tiles p meta config image blocks good whole chunk_some cs apart some q few fits q_some (At s) Held Verify (OfUpdate UpdateGet) VW VD
         (verify_asking fields tiles p meta image u blocks good q few whole chunk_some held last all_full all_is none chunks) (λ rs. refl)
-        (λ x h. (row_begun laws fields tiles p meta config image blocks good whole chunk_some cs apart some q few fits q_some Verify 2 none chunks x h.row refl, sealing_at Verify h.j x h.sealing))
+        (λ x h. (rested_begun laws fields tiles p meta config image blocks good whole chunk_some cs apart some q few fits q_some Verify 2 none chunks x h.row (λ heard. refl), sealing_at Verify h.j x h.sealing))
         (next_leads laws fields tiles p meta config image blocks good whole chunk_some cs apart some q few fits q_some s Verify Held held_is (counts_done laws fields tiles p meta config image blocks good whole chunk_some cs apart some q few fits q_some s e) (λ rs. refl) (λ ps h le. to_verify s e ps h)) xs r
 
     -- ---- 9

@@ -42,6 +42,14 @@ module _ (v : Client) (u : ℕ) (x : Pair) where
 pub record Row (phase : ℕ) (blocks chunks : List Bool) (pending : Bool) (x : Pair) : Type 0 where
   pub r_is : x.r ≡ rcv x.config.address phase blocks chunks pending
 
+-- one that has answered; in pull it may have been heard
+pub record Rested (phase : ℕ) (blocks chunks : List Bool) (x : Pair) : Type 0 where
+  pub heard : Bool
+  pub r_is : x.r ≡ record (rcv x.config.address phase blocks chunks false) { heard = heard }
+
+pub rests : (phase : ℕ) (blocks chunks : List Bool) (x : Pair) → Row phase blocks chunks false x → Rested phase blocks chunks x
+rests phase blocks chunks x h = record { heard = false; r_is = h.r_is }
+
 pub row_place : (phase : ℕ) (blocks chunks : List Bool) (pending : Bool) (x : Pair) → Row phase blocks chunks pending x → x.r.row.address ≡ x.config.address
 row_place phase blocks chunks pending x h = ap (λ (r : Receiver). r.row.address) h.r_is
 

@@ -28,3 +28,8 @@ pub mod SpotTurns
 pub mod Planned
 pub mod Stays
 pub mod Whole
+pub mod Wanted
+pub mod PullNodes
+pub mod PullPairs
+pub mod PullTurns
+pub mod PullTheorem

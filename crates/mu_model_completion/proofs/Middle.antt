@@ -20,11 +20,11 @@ use Rattle.mu_model_completion.proofs.Pairs.{Pair, receiver_in}
 use Rattle.mu_model_completion.proofs.Receivers.{none_some}
 use Rattle.mu_model_completion.proofs.Stations.{Within, by_turn, and_then, more_room, so, Station, begins, leads_on, first_items, turn_in, turn_next}
 use Rattle.mu_model_completion.proofs.Asking.{Apart, configs}
-use Rattle.mu_model_completion.proofs.First.{Good, Pushes, Row, Runs, TransferD, runs_longer}
+use Rattle.mu_model_completion.proofs.First.{Good, Pushes, Rested, rests, Runs, TransferD, runs_longer}
 use Rattle.mu_model_completion.proofs.Pieces.{lacking_from, held_below, missed_at, find_least}
 use Rattle.mu_model_completion.proofs.Blocks.{IsVerified, Tiles, InBlock, held_of, last_of, BlockW, BlockD, block_request, block_asking, Chunked, chunked_longer, Sealing, After, GetW, GetD, get_asking}
 use Rattle.mu_model_completion.proofs.Chunked.{Beginning, Chunking, ChunksSent}
-use Rattle.mu_model_completion.proofs.Course.{Reached, Answered, go_step, next_leads, row_is, row_begun, row_begun_by, some_active, all_begin, configs_length}
+use Rattle.mu_model_completion.proofs.Course.{Reached, Answered, Leads, go_step, next_leads, row_is, row_begun, rested_begun, row_begun_by, some_active, all_begin, configs_length}
 
 -- the steps after which a block begins
 abbrev pub EndsBlock : Step → Type 0
@@ -52,18 +52,18 @@ module _ (laws : KeepsPlan) (fields : FieldsAreRead) (tiles : Tiles) (p : Sendin
 
   -- b blocks are held by all, and n by none
   pub record Between (b n : ℕ) (x : Pair) : Type 0 where
-    chunks : List Bool
-    none : has_some chunks ≡ false
-    row : Row 2 (lacking_from b n) chunks false x
-    before : Option LastBlock
-    runs : Runs fields p meta image u blocks good q few (held b n) before q x
+    pub chunks : List Bool
+    pub none : has_some chunks ≡ false
+    pub row : Rested 2 (lacking_from b n) chunks x
+    pub before : Option LastBlock
+    pub runs : Runs fields p meta image u blocks good q few (held b n) before q x
 
   pub record AllHeld (c : ℕ) (x : Pair) : Type 0 where
-    pub row : Row 2 (lacking_from (suc blocks) 0) (no_number (suc c)) false x
+    pub row : Rested 2 (lacking_from (suc blocks) 0) (no_number (suc c)) x
     pub j : ℕ
     pub sealing : Sealing fields tiles p meta image u blocks good q few whole chunk_some (held (suc blocks) 0) (Some (last blocks)) j x
 
-  between_is : (b n : ℕ) (x : Pair) → Between b n x → (x.r.pending ≡ false) × (is_active x.r ≡ true)
+  pub between_is : (b n : ℕ) (x : Pair) → Between b n x → (x.r.pending ≡ false) × (is_active x.r ≡ true)
   between_is b n x h = (ap (λ (r : Receiver). r.pending) h.row.r_is, ap is_active h.row.r_is)
 
   -- ---- the least block that is missed
@@ -80,17 +80,17 @@ module _ (laws : KeepsPlan) (fields : FieldsAreRead) (tiles : Tiles) (p : Sendin
   is_missed P k f [] h le = absurd (omega (arith, le))
   is_missed P k f (x ∷ ps) h le = ap (λ b. b || list_any (misses_block k) (map receiver_in ps)) (f x h.0)
 
-  pub row_misses : (b n k : ℕ) (x : Pair) (chunks : List Bool) (pending : Bool) → Row 2 (lacking_from b n) chunks pending x → misses_block k x.r ≡ has (lacking_from b n) k
-  row_misses b n k x chunks pending h = ap (misses_block k) h.r_is
+  pub row_misses : (b n k : ℕ) (x : Pair) (chunks : List Bool) → Rested 2 (lacking_from b n) chunks x → misses_block k x.r ≡ has (lacking_from b n) k
+  row_misses b n k x chunks h = ap (misses_block k) h.r_is
 
-  next_is : (b n : ℕ) → b + suc n ≡ suc blocks → (ps : List Pair) → AllByRecursion (Between b (suc n)) ps → 1 ≤ length ps
+  pub next_is : (b n : ℕ) → b + suc n ≡ suc blocks → (ps : List Pair) → AllByRecursion (Between b (suc n)) ps → 1 ≤ length ps
       → d.next_block p (Update meta true) (map receiver_in ps) ≡ Go (Block b)
   next_is b n sum ps h le =
       let t : ℕ → Bool = d.is_missed (map receiver_in ps) in
       let least : find t (below (block_total p)) ≡ Some b =
       ap (λ m. find t (below m)) good.total ∙ find_least t (suc blocks) b (omega (arith, sum))
-      (λ k lt. not_missed (Between b (suc n)) k (λ x w. row_misses b (suc n) k x w.chunks false w.row ∙ held_below b (suc n) k lt) ps h)
-      (is_missed (Between b (suc n)) b (λ x w. row_misses b (suc n) b x w.chunks false w.row ∙ missed_at b n) ps h le) in
+      (λ k lt. not_missed (Between b (suc n)) k (λ x w. row_misses b (suc n) k x w.chunks w.row ∙ held_below b (suc n) k lt) ps h)
+      (is_missed (Between b (suc n)) b (λ x w. row_misses b (suc n) b x w.chunks w.row ∙ missed_at b n) ps h le) in
       ap (d.block_or (Go Verify)) least
 
   pub after_is : (s : Step) → EndsBlock s → (rs : List Receiver) → list_any misses_chunks rs ≡ false → d.after p (Update meta true) rs s ≡ d.next_block p (Update meta true) rs
@@ -121,13 +121,26 @@ module _ (laws : KeepsPlan) (fields : FieldsAreRead) (tiles : Tiles) (p : Sendin
   counts_done Confirm e c = absurd e
   counts_done Cancel e c = absurd e
 
-  pub no_chunk : (x : Pair) (bs chunks : List Bool) → has_some chunks ≡ false → Row 2 bs chunks false x → misses_chunks x.r ≡ false
+  pub no_chunk : (x : Pair) (bs chunks : List Bool) → has_some chunks ≡ false → Rested 2 bs chunks x → misses_chunks x.r ≡ false
   no_chunk x bs chunks none h = ap misses_chunks h.r_is ∙ none
 
   -- ---- a block
 
   pub runs_at : (step : Step) (hs : Slots) (before : Option LastBlock) (a : ℕ) (x : Pair) → Runs fields p meta image u blocks good q few hs before a x → Runs fields p meta image u blocks good q few hs before a (begins laws p meta config image step x)
   runs_at step hs before a x h = record { capacity = h.capacity; active = h.active; images = h.images; offer = h.offer; count = h.count; fresh = h.fresh; heard = h.heard; lately = h.lately; n_is = h.n_is }
+
+  -- it begins
+  pub block_begins : (b n : ℕ) (x : Pair) → Between b (suc n) x → BlockW fields tiles p meta image u blocks good q few whole chunk_some b n 0 (begins laws p meta config image (Block b) x)
+  block_begins b n x h = (
+    (h.chunks, rested_begun laws fields tiles p meta config image blocks good whole chunk_some cs apart some q few fits q_some (Block b) 2 (lacking_from b (suc n)) h.chunks x h.row (λ heard. missed_at b n)),
+    (h.before, runs_longer fields p meta image u blocks good q few (held b (suc n)) h.before q (q + 0) (begins laws p meta config image (Block b) x) (omega arith) (runs_at (Block b) (held b (suc n)) h.before q x h.runs)),
+  )
+
+  pub block_leads : (b n : ℕ) → b + suc n ≡ suc blocks → (s : Step) → EndsBlock s → (ps : List Pair) → AllByRecursion (Between b (suc n)) ps → 1 ≤ length ps
+      → Leads laws fields tiles p meta config image blocks good whole chunk_some cs apart some q few fits q_some (At s) ps (Block b)
+  block_leads b n sum s e =
+      next_leads laws fields tiles p meta config image blocks good whole chunk_some cs apart some q few fits q_some s (Block b) (Between b (suc n)) (between_is b (suc n)) (counts_done s e) (λ rs. refl)
+      (λ ps h le. after_is s e (map receiver_in ps) (no_chunks (Between b (suc n)) (λ x w. no_chunk x (lacking_from b (suc n)) w.chunks w.none w.row) ps h) ∙ next_is b n sum ps h le)
 
   -- ---- from block to block
 
@@ -149,7 +162,7 @@ module _ (laws : KeepsPlan) (fields : FieldsAreRead) (tiles : Tiles) (p : Sendin
   first_between x h = record {
     chunks = [];
     none = refl;
-    row = h.2.0;
+    row = rests 2 _ _ x h.2.0;
     before = None;
     runs = runs_longer fields p meta image u blocks good q few (held 0 (suc blocks)) None h.0 q x h.1 h.2.1;
   }
@@ -166,18 +179,11 @@ module _ (laws : KeepsPlan) (fields : FieldsAreRead) (tiles : Tiles) (p : Sendin
       abbrev BD : ℕ → Pair → Type 0
       BD j x = BlockD fields tiles p meta image u blocks good q few whole chunk_some b n c j x
 
-      block_begins : (x : Pair) → Between b (suc n) x → BlockW fields tiles p meta image u blocks good q few whole chunk_some b n 0 (begins laws p meta config image (Block b) x)
-      block_begins x h = (
-        (h.chunks, row_begun laws fields tiles p meta config image blocks good whole chunk_some cs apart some q few fits q_some (Block b) 2 (lacking_from b (suc n)) h.chunks x h.row (missed_at b n)),
-        (h.before, runs_longer fields p meta image u blocks good q few (held b (suc n)) h.before q (q + 0) (begins laws p meta config image (Block b) x) (omega arith) (runs_at (Block b) (held b (suc n)) h.before q x h.runs)),
-      )
-
       begun : (s : Step) → EndsBlock s → (xs : List Member) → At_ (At s) (Between b (suc n)) xs → Within q (At_ (At (Block b)) (Done BD)) xs
       begun s e xs r =
           go_step laws fields tiles p meta config image blocks good whole chunk_some cs apart some q few fits q_some (At s) (Between b (suc n)) (Block b) (block_request fields tiles p meta image u blocks good q few whole chunk_some b)
-          (BlockW fields tiles p meta image u blocks good q few whole chunk_some b n) BD (block_asking fields tiles p meta image u blocks good q few whole chunk_some pushes.no_pull b n c total) (λ rs. refl) block_begins
-          (next_leads laws fields tiles p meta config image blocks good whole chunk_some cs apart some q few fits q_some s (Block b) (Between b (suc n)) (between_is b (suc n)) (counts_done s e) (λ rs. refl)
-          (λ ps h le. after_is s e (map receiver_in ps) (no_chunks (Between b (suc n)) (λ x w. no_chunk x (lacking_from b (suc n)) w.chunks w.none w.row) ps h) ∙ next_is b n sum ps h le)) xs r
+          (BlockW fields tiles p meta image u blocks good q few whole chunk_some b n) BD (block_asking fields tiles p meta image u blocks good q few whole chunk_some pushes.no_pull b n c total) (λ rs. refl) (block_begins b n)
+          (block_leads b n sum s e) xs r
 
       -- ---- its chunks
 
@@ -270,7 +276,7 @@ module _ (laws : KeepsPlan) (fields : FieldsAreRead) (tiles : Tiles) (p : Sendin
     to_between b n c x h = record {
       chunks = no_number (suc c);
       none = none_some (suc c);
-      row = h.2.0;
+      row = rests 2 _ _ x h.2.0;
       before = Some (last b);
       runs = runs_longer fields p meta image u blocks good q few (held (suc b) (suc n)) (Some (last b)) (0 + h.0) q x (let le = h.1 in omega (arith, le)) h.2.1;
     }
@@ -278,7 +284,7 @@ module _ (laws : KeepsPlan) (fields : FieldsAreRead) (tiles : Tiles) (p : Sendin
     to_all : (b c : ℕ) → b ≡ blocks → (x : Pair) → Done (GetD fields tiles p meta image u blocks good q few whole chunk_some b 0 c) x → AllHeld c x
     to_all b c e x h =
         subst (λ i. (y : Pair) → Done (GetD fields tiles p meta image u blocks good q few whole chunk_some i 0 c) y → AllHeld c y) (sym e)
-        (λ y k. record { row = k.2.0; j = k.0; sealing = k.2.1 }) x h
+        (λ y k. record { row = rests 2 _ _ y k.2.0; j = k.0; sealing = k.2.1 }) x h
 
     pub all_blocks : (n b : ℕ) (s : Step) → EndsBlock s → b + suc n ≡ suc blocks → (xs : List Member) → At_ (At s) (Between b (suc n)) xs
         → Within (suc n * (q + (suc mc + q))) Ended_blocks xs

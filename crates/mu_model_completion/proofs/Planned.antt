@@ -14,6 +14,7 @@ use Rattle.mu_model_client.specs.declared.Sending.{Sending}
 use Rattle.mu_model_client.specs.declared.Plan.{Plan}
 use Rattle.mu_model_client.specs.Client.{block_total, chunk_total, full_chunks}
 use Rattle.mu_model_completion.specs.Completion.{IsUpdate, CanTake}
+use Rattle.mu_model_completion.specs.Answering.{reaches}
 use Rattle.mu_model_completion.proofs.Asking.{Misses}
 use Rattle.mu_model_completion.proofs.Nodes.{Offer}
 use Rattle.mu_model_completion.proofs.First.{Good, Pushes}
@@ -86,6 +87,22 @@ full_few p log least =
 
         positive : (c : ℕ) → 8 ≤ c → 0 < c
         positive c least = omega (arith, least)
+
+-- where chunks for a node go: to its address, or to its group
+pub group_reached : (p : Sending) (config : NodeConfig) → (p.group ≡ 0) ⊎ (config.group ≡ p.group) → (zero : Bool) → (p.group == 0) ≡ zero
+    → (dest : ℕ) × (((p.group == 0) ≡ true × (dest ≡ config.address)) ⊎ ((p.group == 0) ≡ false × (dest ≡ p.group) × (reaches p.group config ≡ true)))
+group_reached p config g true e = (config.address, inl (e, refl))
+group_reached p config (inl g) false e = absurd (grind (arith, sym e ∙ eq-eqb p.group 0 g))
+group_reached p config (inr g) false e = (p.group, inr (e, refl, or_right (p.group == config.address) (not (config.group == 0) && (p.group == config.group)) both))
+  where
+    or_right : (x y : Bool) → y ≡ true → (x || y) ≡ true
+    or_right true y h = refl
+    or_right false y h = h
+
+    both : (not (config.group == 0) && (p.group == config.group)) ≡ true
+    both =
+        ap (λ z. not (z == 0) && (p.group == z)) g
+        ∙ (ap (λ z. not z && (p.group == p.group)) e ∙ eq-eqb p.group p.group refl)
 
 -- ---- a plan and its image
 

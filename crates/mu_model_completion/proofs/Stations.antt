@@ -152,3 +152,21 @@ module _ (laws : KeepsPlan) (p : Sending) (meta : Meta) (config : NodeConfig) (i
       → (began moment : ℕ) → d.by_place (client_at (Before next) [] began moment (map receiver_in ps)) image (Before next)
       ≡ d.sends (d.in_step (client_at (Before next) [] began moment (map receiver_in ps)) next) image (d.first_of (client_at (Before next) [] began moment (map receiver_in ps)) next)
   leads_first next ps some began moment = ap (λ b. d.begins_if (client_at (Before next) [] began moment (map receiver_in ps)) image next b) some
+
+  -- a turn in which the client makes this of its receivers, and sends these
+  pub turn_by : (place next : Place) (later items : List Item) (ps : List Pair) (xs : List Member) (s : Station place [] ps xs) (g : Receiver → Receiver) → ((r : Receiver) → (g r).row.address ≡ r.row.address)
+      → (began : ℕ)
+      → d.by_place (client_at place [] s.began (max s.moment (s.now + 100)) (map receiver_in ps)) image place
+      ≡ record { next = client_at next later began (max s.moment (s.now + 100)) (map g (map receiver_in ps)); packets = map (sent_for p image) items }
+      → Station next later (map (pair_turn (client_at next [] 0 0 []) config.address g (sent_all items)) ps) (turn xs)
+  turn_by place next later items ps xs s g keeps began leads =
+      let e : Due = record { next = client_at next later began (max s.moment (s.now + 100)) (map g (map receiver_in ps)); packets = map (sent_for p image) items } in
+      let early = s.early in
+      let late : max s.moment (s.now + 100) ≡ s.now + 100 = omega (arith, early) in
+      record {
+        now = s.now + 100;
+        began = began;
+        moment = max s.moment (s.now + 100);
+        early = omega (arith, late);
+        holds = turned laws config image s.now _ ps xs s.holds g keeps e leads refl late;
+      }

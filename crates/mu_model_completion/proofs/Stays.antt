@@ -2,7 +2,7 @@
 use Rattle.std.proofs.Common.{◌≡◌, ◌⊎◌, inl, inr, ◌<◌, ◌==◌, ℕ, suc, List, [], ◌∷◌, refl, sym, ap, ◌∙◌, subst, true, false, Bool, None, arith, map, length}
 use Rattle.std.specs.Prelude.{◌≢◌, ◌||◌, ◌&&◌, not, nat_eq}
 use Rattle.std.specs.List.{list_any, AllByRecursion}
-use Rattle.std.proofs.lemmas.Bool.{eq-eqb, eqb-true}
+use Rattle.std.proofs.lemmas.Bool.{eqb-true}
 use Rattle.std.proofs.lemmas.Bool.Decides.{nat_tests}
 use Rattle.mu_model_image.specs.declared.Meta.{Meta}
 use Rattle.mu_model_image.specs.Meta.{Image}
@@ -24,7 +24,7 @@ use Rattle.mu_model_completion.proofs.First.{Good, Pushes}
 use Rattle.mu_model_completion.proofs.Blocks.{Tiles}
 use Rattle.mu_model_completion.proofs.Receivers.{rcv}
 use Rattle.mu_model_completion.proofs.Planned as pl
-use Rattle.mu_model_completion.proofs.Planned.{misses}
+use Rattle.mu_model_completion.proofs.Planned.{misses, group_reached}
 use Rattle.mu_model_completion.proofs.Among.{Elsewhere, Here, mine}
 use Rattle.mu_model_completion.proofs.Hears.{Stands, Asked as WasAsked, all_asked, others_stand}
 use Rattle.mu_model_completion.proofs.Moments.{LinkStands}
@@ -170,26 +170,11 @@ module _ (laws : KeepsPlan) (fields : FieldsAreRead) (tiles : Tiles) (read : Met
           inl (ap (λ z. rcv z 10 [] [] false) same, others_elsewhere as_ (subst (λ z. AllByRecursion (λ c. z ≢ c) as_) same n.0) u.1)
       by_case false h k rest = inr (misses b config u.0 (differs config.address b h) can.some_group, rest k)
 
-  group_reached : (plan.sending.group ≡ 0) ⊎ (config.group ≡ plan.sending.group) → (zero : Bool) → (p.group == 0) ≡ zero
-      → (dest : ℕ) × (((p.group == 0) ≡ true × (dest ≡ config.address)) ⊎ ((p.group == 0) ≡ false × (dest ≡ p.group) × (reaches p.group config ≡ true)))
-  group_reached g true e = (config.address, inl (e, refl))
-  group_reached (inl g) false e = absurd (grind (arith, sym e ∙ eq-eqb p.group 0 g))
-  group_reached (inr g) false e = (p.group, inr (e, refl, or_right (p.group == config.address) (not (config.group == 0) && (p.group == config.group)) both))
-    where
-      or_right : (x y : Bool) → y ≡ true → (x || y) ≡ true
-      or_right true y h = refl
-      or_right false y h = h
-
-      both : (not (config.group == 0) && (p.group == config.group)) ≡ true
-      both =
-          ap (λ z. not (z == 0) && (p.group == z)) g
-          ∙ (ap (λ z. not z && (p.group == p.group)) e ∙ eq-eqb p.group p.group refl)
-
   pub answering_stays : (ts : List Turn) → list_any (nat_eq config.address) to ≡ true → NoneTwice to → AllByRecursion IsUnicast to → AllByRecursion (FromOthers config.address) ts
       → InTime config image (record { client = start plan (map with_index to); node = node }) ts
       → StaysActive config.address (turns config image (record { client = start plan (map with_index to); node = node }) ts).client
   answering_stays ts one_of none_twice unicast others in_time =
-      let g = group_reached can.in_group (p.group == 0) refl in
+      let g = group_reached p config can.in_group (p.group == 0) refl in
       let x : Answering = record { client = start plan (map with_index to); node = node } in
       let offer = pl.offer tiles read tested plan image update config node can in
       let good = pl.good tiles read tested plan image update in

@@ -65,7 +65,7 @@ module _ (plan : Plan) (image : List ℕ) (members : List Member) where
   abbrev pair_of : (a : ℕ) → Takes_ a → Pair
   pair_of a t = record { r = new_active (a, 0); config = t.config; moment = t.moment; n = t.state }
 
-  pub pairs : (to : List ℕ) → AllByRecursion Takes_ to → List Pair
+  abbrev pub pairs : (to : List ℕ) → AllByRecursion Takes_ to → List Pair
   pairs [] h = []
   pairs (a ∷ to) h = pair_of a h.0 ∷ pairs to h.1
 
@@ -73,17 +73,14 @@ module _ (plan : Plan) (image : List ℕ) (members : List Member) where
   address_is a t = found_address a members _ t.found
 
   all_here : (to : List ℕ) (h : AllByRecursion Takes_ to) → AllByRecursion (IsHere members) (pairs to h)
-  unfolding pairs
   all_here [] h = tt
   all_here (a ∷ to) h = (record { node = ap (λ z. at_address z members) (address_is a h.0) ∙ h.0.found; receiver = sym (address_is a h.0) }, all_here to h.1)
 
   receivers_are : (to : List ℕ) (h : AllByRecursion Takes_ to) → map new_active (map (λ a. (a, 0)) to) ≡ map receiver_in (pairs to h)
-  unfolding pairs
   receivers_are [] h = refl
   receivers_are (a ∷ to) h = ap (λ rs. new_active (a, 0) ∷ rs) (receivers_are to h.1)
 
   pairs_length : (to : List ℕ) (h : AllByRecursion Takes_ to) → length (configs (pairs to h)) ≡ length to
-  unfolding pairs
   pairs_length [] h = refl
   pairs_length (a ∷ to) h = ap suc (pairs_length to h.1)
 
@@ -91,7 +88,6 @@ module _ (plan : Plan) (image : List ℕ) (members : List Member) where
 
   apart_from : (a : ℕ) (t : Takes_ a) (to : List ℕ) (h : AllByRecursion Takes_ to) → AllByRecursion (λ b. a ≢ b) to
       → AllByRecursion (λ (e : NodeConfig). Misses t.config.address e × Misses e.address t.config) (configs (pairs to h))
-  unfolding pairs
   apart_from a t [] h k = tt
   apart_from a t (b ∷ to) h k =
       let here : t.config.address ≡ a = address_is a t in
@@ -104,7 +100,6 @@ module _ (plan : Plan) (image : List ℕ) (members : List Member) where
       )
 
   all_apart : (to : List ℕ) (h : AllByRecursion Takes_ to) → NoneTwice to → Apart (configs (pairs to h))
-  unfolding pairs
   all_apart [] h k = tt
   all_apart (a ∷ to) h k = (apart_from a h.0 to h.1 k.0, all_apart to h.1 k.1)
 
@@ -119,7 +114,6 @@ module _ (plan : Plan) (image : List ℕ) (members : List Member) where
       no_zero g h = grind (arith, nat_tests, h)
 
   pub all_reached : plan.sending.group ≢ 0 → (to : List ℕ) (h : AllByRecursion Takes_ to) → AllByRecursion (Reaches plan.sending.group) (configs (pairs to h))
-  unfolding pairs
   all_reached some [] h = tt
   all_reached some (a ∷ to) h = (group_reaches h.0.config some (its_group h.0.can.in_group), all_reached some to h.1)
     where
@@ -213,7 +207,6 @@ module _ (laws : KeepsPlan) (fields : FieldsAreRead) (tiles : Tiles) (read : Met
   )
 
   all_first : (as_ : List ℕ) (h : AllByRecursion (Takes plan members) as_) → AllByRecursion First_ (pairs plan image members as_ h)
-  unfolding pairs
   all_first [] h = tt
   all_first (a ∷ rest) h = (first_pair a h.0, all_first rest h.1)
 
@@ -245,7 +238,6 @@ module _ (laws : KeepsPlan) (fields : FieldsAreRead) (tiles : Tiles) (read : Met
   -- ---- the rows at the end
 
   configs_address : (as_ : List ℕ) (h : AllByRecursion (Takes plan members) as_) → map (λ (c : NodeConfig). c.address) (configs (pairs plan image members as_ h)) ≡ as_
-  unfolding pairs
   configs_address [] h = refl
   configs_address (a ∷ rest) h = cons_same (address_is plan image members a h.0) (configs_address rest h.1)
     where

@@ -130,7 +130,12 @@ abbrev pub push_turns : Sending → (receivers : ℕ) → ℕ
 push_turns p receivers =
     7 * sixteens receivers + block_total p * (2 * sixteens receivers + sixteens (chunk_total p 0 * copies p receivers))
 
--- ---- the law
+-- in pull, seven turns; and for each block one, and two for each sixteen chunks of a full block: one in which the node asks for
+-- them, and one in which they come
+abbrev pub pull_turns : Sending → ℕ
+pull_turns p = 7 + block_total p * (1 + 2 * sixteens (chunk_total p 0))
+
+-- ---- the laws
 
 -- the row of a receiver that has the image
 abbrev pub succeeded : ℕ → Row
@@ -147,6 +152,13 @@ PushCompletes =
     (plan : Plan) (image : List ℕ) (to : List ℕ) (members : List Member) (from : CanBegin plan image to members)
     → plan.sending.mode ≡ 1 → (n : ℕ) → push_turns plan.sending (length to) ≤ n
     → Completed from.config.address to (settle n members)
+
+-- and in pull, where there is one receiver
+abbrev pub PullCompletes : Type 0
+PullCompletes =
+    (plan : Plan) (image : List ℕ) (to : ℕ) (members : List Member) (from : CanBegin plan image (to ∷ []) members)
+    → plan.sending.mode ≡ 2 → (n : ℕ) → pull_turns plan.sending ≤ n
+    → Completed from.config.address (to ∷ []) (settle n members)
 
 -- three receivers and 64 KiB in 16 blocks of 21 chunks, to a group: 71 turns
 abbrev pub plan_64 : (version : ℕ) → List ℕ → Plan

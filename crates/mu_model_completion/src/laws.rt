@@ -1,7 +1,7 @@
 //! Laws on whole updates in which nothing is lost: functions that do nothing, whose contracts are proved.
 
 ghost use Rattle.mu_model_completion.specs.Answering.{AnsweringStays};
-ghost use Rattle.mu_model_completion.specs.Completion.{PushCompletes, ThreeOver64KiB};
+ghost use Rattle.mu_model_completion.specs.Completion.{PushCompletes, PullCompletes, ThreeOver64KiB};
 ghost use Rattle.mu_model_completion.specs.Worked.{OneNodeCompletes, EqualVersionEnds, FirstBlock, ThreeComplete};
 
 use mu_model_client_laws::laws::{fields_are_read, plans_stay};
@@ -11,6 +11,19 @@ use mu_model_image::laws::{blocks, chunks, images, metadata};
 /// receivers, and for each block two for each sixteen receivers and one for each sixteen chunks.
 pub fn push_completes()
     ensures { PushCompletes }
+{
+    plans_stay();
+    fields_are_read();
+    metadata();
+    images();
+    blocks();
+    chunks();
+}
+
+/// In pull one receiver has the image after so many turns, and from then on, where nothing is lost: seven turns, and for each block
+/// one and two for each sixteen chunks.
+pub fn pull_completes()
+    ensures { PullCompletes }
 {
     plans_stay();
     fields_are_read();
