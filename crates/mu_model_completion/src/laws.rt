@@ -2,7 +2,8 @@
 
 ghost use Rattle.mu_model_completion.specs.Answering.{AnsweringStays};
 ghost use Rattle.mu_model_completion.specs.Completion.{PushCompletes, PullCompletes, ThreeOver64KiB};
-ghost use Rattle.mu_model_completion.specs.Worked.{OneNodeCompletes, EqualVersionEnds, FirstBlock, ThreeComplete};
+ghost use Rattle.mu_model_completion.specs.WorkedAnswering.{BesideTheSilent};
+ghost use Rattle.mu_model_completion.specs.Worked.{OneNodeCompletes, OneNodePulls, EqualVersionEnds, FirstBlock, ThreeComplete};
 
 use mu_model_client_laws::laws::{fields_are_read, plans_stay};
 use mu_model_image::laws::{blocks, chunks, images, metadata};
@@ -61,6 +62,8 @@ pub fn answering_stays()
 /// Worked rows: how many turns an update takes.
 pub fn worked_updates()
     ensures one_node { OneNodeCompletes }
+    ensures one_pulls { OneNodePulls }
+    ensures beside_the_silent { BesideTheSilent }
     ensures equal_version { EqualVersionEnds }
     ensures first_block { FirstBlock }
     ensures three { ThreeComplete }
