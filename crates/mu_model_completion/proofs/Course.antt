@@ -139,19 +139,19 @@ module _ (laws : KeepsPlan) (fields : FieldsAreRead) (tiles : Tiles) (p : Sendin
       (check_asking fields p meta image u blocks good q few) (λ rs. refl) (λ x h. (row_begun Check 10 [] [] x h.0 refl, idle_at Check x h.1))
       (λ ps h le. leads_first laws p meta config image Check ps (some_active First (λ x k. (row_is 10 [] [] false x k.0).1) ps h le)) xs r
 
-  abbrev StartDone : Pair → Type 0
+  abbrev pub StartDone : Pair → Type 0
   StartDone x = Answered (StartD fields p meta image u blocks good q few) x
 
-  started : (xs : List Member) → Reached (At Check) CheckDone xs → Within q (Reached (At Start) StartDone) xs
+  pub started : (xs : List Member) → Reached (At Check) CheckDone xs → Within q (Reached (At Start) StartDone) xs
   started xs r =
       go_step (At Check) CheckDone Start (start_request fields p meta image u blocks good q few) (StartW fields p meta image u blocks good q few) (StartD fields p meta image u blocks good q few)
       (start_asking fields p meta image u blocks good q few) (λ rs. refl) (λ x h. (row_begun Start 10 [] [] x h.2.0 refl, idle_at Start x h.2.1))
       (next_leads Check Start CheckDone (λ x k. row_is 10 [] [] false x k.2.0) (λ c. refl) (λ rs. refl) (λ ps h le. refl)) xs r
 
-  abbrev InformationDone : Pair → Type 0
+  abbrev pub InformationDone : Pair → Type 0
   InformationDone x = Answered (InformationD fields p meta image u blocks good q few) x
 
-  informed : (xs : List Member) → Reached (At Start) StartDone xs → Within q (Reached (At Information) InformationDone) xs
+  pub informed : (xs : List Member) → Reached (At Start) StartDone xs → Within q (Reached (At Information) InformationDone) xs
   informed xs r =
       go_step (At Start) StartDone Information (OfBlob BlobInformationGet) (InformationW fields p meta image u blocks good q few) (InformationD fields p meta image u blocks good q few)
       (information_asking fields p meta image u blocks good q few) (λ rs. refl)
@@ -161,7 +161,7 @@ module _ (laws : KeepsPlan) (fields : FieldsAreRead) (tiles : Tiles) (p : Sendin
   abbrev pub TransferDone : Pair → Type 0
   TransferDone x = Answered (TransferD fields p meta image u blocks good q few) x
 
-  transferred : (xs : List Member) → Reached (At Information) InformationDone xs → Within q (Reached (At Transfer) TransferDone) xs
+  pub transferred : (xs : List Member) → Reached (At Information) InformationDone xs → Within q (Reached (At Transfer) TransferDone) xs
   transferred xs r =
       go_step (At Information) InformationDone Transfer (transfer_request fields p meta image u blocks good q few) (TransferW fields p meta image u blocks good q few) (TransferD fields p meta image u blocks good q few)
       (transfer_asking fields p meta image u blocks good q few) (λ rs. refl)

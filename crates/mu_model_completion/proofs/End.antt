@@ -59,13 +59,13 @@ module _ (laws : KeepsPlan) (fields : FieldsAreRead) (tiles : Tiles) (p : Sendin
     abbrev VW : ℕ → Pair → Type 0
     VW j x = VerifyW fields tiles p meta image u blocks good q few whole chunk_some held last all_full all_is none chunks j x
 
-    abbrev VD : ℕ → Pair → Type 0
+    abbrev pub VD : ℕ → Pair → Type 0
     VD j x = VerifyD fields tiles p meta image u blocks good q few whole chunk_some held last all_full all_is none chunks j x
 
     abbrev AW : ℕ → Pair → Type 0
     AW j x = ApplyW fields tiles p meta image u blocks good q few whole chunk_some held last all_full all_is none chunks j x
 
-    abbrev AD : ℕ → Pair → Type 0
+    abbrev pub AD : ℕ → Pair → Type 0
     AD j x = ApplyD fields tiles p meta image u blocks good q few whole chunk_some held last all_full all_is none chunks j x
 
     abbrev CW : ℕ → Pair → Type 0
@@ -92,7 +92,7 @@ module _ (laws : KeepsPlan) (fields : FieldsAreRead) (tiles : Tiles) (p : Sendin
     applies_at step x (inl h) = inl (record { capacity = h.capacity; active = h.active; images = h.images; offer = h.offer; count = h.count; fresh = h.fresh; heard = h.heard; n_is = h.n_is })
     applies_at step x (inr h) = inr (record { capacity = h.capacity; images = h.images; count = h.count; fresh = h.fresh; session = h.session; n_is = h.n_is })
 
-    abbrev Held : Pair → Type 0
+    abbrev pub Held : Pair → Type 0
     Held x = AllHeld laws fields tiles p meta config image blocks good whole chunk_some cs apart some q few fits q_some c x
 
     -- ---- 8
@@ -114,7 +114,7 @@ module _ (laws : KeepsPlan) (fields : FieldsAreRead) (tiles : Tiles) (p : Sendin
     held_is : (x : Pair) → Held x → (x.r.pending ≡ false) × (is_active x.r ≡ true)
     held_is x h = (ap (λ (r : Receiver). r.pending) h.row.r_is, ap is_active h.row.r_is)
 
-    verified : (s : Step) → EndsBlock s → (xs : List Member) → At_ (At s) Held xs → Within q (At_ (At Verify) (Done VD)) xs
+    pub verified : (s : Step) → EndsBlock s → (xs : List Member) → At_ (At s) Held xs → Within q (At_ (At Verify) (Done VD)) xs
     verified s e xs r =
         go_step laws fields tiles p meta config image blocks good whole chunk_some cs apart some q few fits q_some (At s) Held Verify (OfUpdate UpdateGet) VW VD
         (verify_asking fields tiles p meta image u blocks good q few whole chunk_some held last all_full all_is none chunks) (λ rs. refl)
@@ -123,7 +123,7 @@ module _ (laws : KeepsPlan) (fields : FieldsAreRead) (tiles : Tiles) (p : Sendin
 
     -- ---- 9
 
-    applied : (xs : List Member) → At_ (At Verify) (Done VD) xs → Within q (At_ (At Apply) (Done AD)) xs
+    pub applied : (xs : List Member) → At_ (At Verify) (Done VD) xs → Within q (At_ (At Apply) (Done AD)) xs
     applied xs r =
         go_step laws fields tiles p meta config image blocks good whole chunk_some cs apart some q few fits q_some (At Verify) (Done VD) Apply (OfUpdate UpdateApply) AW AD
         (apply_asking fields tiles p meta image u blocks good q few whole chunk_some held last all_full all_is none chunks) (λ rs. refl)

@@ -33,3 +33,5 @@ pub mod PullNodes
 pub mod PullPairs
 pub mod PullTurns
 pub mod PullTheorem
+pub mod Exact
+pub mod Sharp

@@ -176,10 +176,10 @@ module _ (laws : KeepsPlan) (fields : FieldsAreRead) (tiles : Tiles) (p : Sendin
       → Within mc (ChunksSent laws fields tiles p meta config image blocks good q few whole chunk_some b n c total cs) ys)
       (pushes : Pushes p) where
     module _ (b n c : ℕ) (sum : b + suc n ≡ suc blocks) (total : chunk_total p b ≡ suc c) where
-      abbrev BD : ℕ → Pair → Type 0
+      abbrev pub BD : ℕ → Pair → Type 0
       BD j x = BlockD fields tiles p meta image u blocks good q few whole chunk_some b n c j x
 
-      begun : (s : Step) → EndsBlock s → (xs : List Member) → At_ (At s) (Between b (suc n)) xs → Within q (At_ (At (Block b)) (Done BD)) xs
+      pub begun : (s : Step) → EndsBlock s → (xs : List Member) → At_ (At s) (Between b (suc n)) xs → Within q (At_ (At (Block b)) (Done BD)) xs
       begun s e xs r =
           go_step laws fields tiles p meta config image blocks good whole chunk_some cs apart some q few fits q_some (At s) (Between b (suc n)) (Block b) (block_request fields tiles p meta image u blocks good q few whole chunk_some b)
           (BlockW fields tiles p meta image u blocks good q few whole chunk_some b n) BD (block_asking fields tiles p meta image u blocks good q few whole chunk_some pushes.no_pull b n c total) (λ rs. refl) (block_begins b n)
@@ -187,14 +187,14 @@ module _ (laws : KeepsPlan) (fields : FieldsAreRead) (tiles : Tiles) (p : Sendin
 
       -- ---- its chunks
 
-      abbrev IsChunking : ℕ → ℕ → Pair → Type 0
+      abbrev pub IsChunking : ℕ → ℕ → Pair → Type 0
       IsChunking k rem x = Chunking laws fields tiles p meta config image blocks good q few whole chunk_some b n c total k rem x
 
       in_block_at : (step : Step) (a : ℕ) (x : Pair) → InBlock fields tiles p meta image u blocks good q few whole chunk_some b n 0 (suc c) a x
           → InBlock fields tiles p meta image u blocks good q few whole chunk_some b n 0 (suc c) a (begins laws p meta config image step x)
       in_block_at step a x h = record { no_pull = h.no_pull; capacity = h.capacity; active = h.active; images = h.images; offer = h.offer; count = h.count; fresh = h.fresh; heard = h.heard; last = h.last; lately = h.lately; n_is = h.n_is }
 
-      abbrev Begins : Pair → Type 0
+      abbrev pub Begins : Pair → Type 0
       Begins x = Beginning laws fields tiles p meta config image blocks good q few whole chunk_some b n c total x
 
       chunks_begin : (x : Pair) → Done BD x → Begins (begins laws p meta config image (Chunks b) x)
@@ -216,19 +216,31 @@ module _ (laws : KeepsPlan) (fields : FieldsAreRead) (tiles : Tiles) (p : Sendin
       begun_configs step [] = refl
       begun_configs step (x ∷ ps) = ap (λ zs. x.config ∷ zs) (begun_configs step ps)
 
-      chunked : (xs : List Member) → At_ (At (Block b)) (Done BD) xs → Within (suc mc) (At_ (At (Chunks b)) (IsChunking (suc c) 0)) xs
-      chunked xs r =
-          let bs : List Pair = map (begins laws p meta config image (Chunks b)) r.qs in
+      -- the turn in which they begin
+      pub record ChunksBegun (xs : List Member) : Type 0 where
+        pub bs : List Pair
+        pub station : Station laws p meta config image (At (Chunks b)) (drop 16 (first_items laws p meta config image (Chunks b) bs)) (map (turn_in laws p meta config image (Chunks b) (take 16 (first_items laws p meta config image (Chunks b) bs))) bs) xs
+        pub all : AllByRecursion Begins bs
+        pub same : configs bs ≡ cs
+
+      pub chunks_begun : (xs : List Member) → At_ (At (Block b)) (Done BD) xs → ChunksBegun (turn xs)
+      chunks_begun xs r =
           let long = configs_length laws fields tiles p meta config image blocks good whole chunk_some cs apart some q few fits q_some r.qs in
           let counted : length (configs r.qs) ≡ length cs = ap (length {A = NodeConfig}) r.same in
           let leads = next_leads laws fields tiles p meta config image blocks good whole chunk_some cs apart some q few fits q_some (Block b) (Chunks b) (Done BD)
           (λ x k. row_is laws fields tiles p meta config image blocks good whole chunk_some cs apart some q few fits q_some 2 (lacking_from b (suc n)) (every_number (suc c)) false x k.2.0)
           (λ z. refl) (λ rs. refl) to_chunks r.qs r.all (omega (arith, long, counted, some)) in
-          let same_b : configs bs ≡ cs = begun_configs (Chunks b) r.qs ∙ r.same in
-          let all_b : AllByRecursion Begins bs =
-          all_begin laws fields tiles p meta config image blocks good whole chunk_some cs apart some q few fits q_some (Done BD) Begins (Chunks b) chunks_begin r.qs r.all in
-          let next = turn_next laws p meta config image (At (Block b)) r.qs xs r.station (Chunks b) leads in
-          let done = sends b n c total sum bs (turn xs) next all_b same_b in
+          record {
+            bs = map (begins laws p meta config image (Chunks b)) r.qs;
+            station = turn_next laws p meta config image (At (Block b)) r.qs xs r.station (Chunks b) leads;
+            all = all_begin laws fields tiles p meta config image blocks good whole chunk_some cs apart some q few fits q_some (Done BD) Begins (Chunks b) chunks_begin r.qs r.all;
+            same = begun_configs (Chunks b) r.qs ∙ r.same;
+          }
+
+      pub chunked : (xs : List Member) → At_ (At (Block b)) (Done BD) xs → Within (suc mc) (At_ (At (Chunks b)) (IsChunking (suc c) 0)) xs
+      chunked xs r =
+          let k = chunks_begun xs r in
+          let done = sends b n c total sum k.bs (turn xs) k.station k.all k.same in
           by_turn mc (At_ (At (Chunks b)) (IsChunking (suc c) 0)) xs (record {
             turns = done.turns;
             few = done.few;
@@ -237,7 +249,7 @@ module _ (laws : KeepsPlan) (fields : FieldsAreRead) (tiles : Tiles) (p : Sendin
 
       -- ---- what is asked after them
 
-      abbrev GD : ℕ → Pair → Type 0
+      abbrev pub GD : ℕ → Pair → Type 0
       GD j x = GetD fields tiles p meta image u blocks good q few whole chunk_some b n c j x
 
       verified_at : (step : Step) (hs : Slots) (before : Option LastBlock) (x : Pair) → IsVerified fields tiles p meta image u blocks good q few whole chunk_some hs before x
@@ -258,7 +270,7 @@ module _ (laws : KeepsPlan) (fields : FieldsAreRead) (tiles : Tiles) (p : Sendin
         after_begins n x h.1,
       )
 
-      got : (xs : List Member) → At_ (At (Chunks b)) (IsChunking (suc c) 0) xs → Within q (At_ (At (Get b)) (Done GD)) xs
+      pub got : (xs : List Member) → At_ (At (Chunks b)) (IsChunking (suc c) 0) xs → Within q (At_ (At (Get b)) (Done GD)) xs
       got xs r =
           go_step laws fields tiles p meta config image blocks good whole chunk_some cs apart some q few fits q_some (At (Chunks b)) (IsChunking (suc c) 0) (Get b) (OfBlob BlockGet)
           (GetW fields tiles p meta image u blocks good q few whole chunk_some b n c) GD (get_asking fields tiles p meta image u blocks good q few whole chunk_some b n c total sum) (λ rs. refl) get_begins
@@ -272,7 +284,7 @@ module _ (laws : KeepsPlan) (fields : FieldsAreRead) (tiles : Tiles) (p : Sendin
           and_then q (suc mc + q) (At_ (At (Block b)) (Done BD)) (At_ (At (Get b)) (Done GD)) xs (begun s e xs r)
           (λ ys t. and_then (suc mc) q (At_ (At (Chunks b)) (IsChunking (suc c) 0)) (At_ (At (Get b)) (Done GD)) ys (chunked ys t) got)
 
-    to_between : (b n c : ℕ) (x : Pair) → Done (GetD fields tiles p meta image u blocks good q few whole chunk_some b (suc n) c) x → Between (suc b) (suc n) x
+    pub to_between : (b n c : ℕ) (x : Pair) → Done (GetD fields tiles p meta image u blocks good q few whole chunk_some b (suc n) c) x → Between (suc b) (suc n) x
     to_between b n c x h = record {
       chunks = no_number (suc c);
       none = none_some (suc c);
@@ -281,7 +293,7 @@ module _ (laws : KeepsPlan) (fields : FieldsAreRead) (tiles : Tiles) (p : Sendin
       runs = runs_longer fields p meta image u blocks good q few (held (suc b) (suc n)) (Some (last b)) (0 + h.0) q x (let le = h.1 in omega (arith, le)) h.2.1;
     }
 
-    to_all : (b c : ℕ) → b ≡ blocks → (x : Pair) → Done (GetD fields tiles p meta image u blocks good q few whole chunk_some b 0 c) x → AllHeld c x
+    pub to_all : (b c : ℕ) → b ≡ blocks → (x : Pair) → Done (GetD fields tiles p meta image u blocks good q few whole chunk_some b 0 c) x → AllHeld c x
     to_all b c e x h =
         subst (λ i. (y : Pair) → Done (GetD fields tiles p meta image u blocks good q few whole chunk_some i 0 c) y → AllHeld c y) (sym e)
         (λ y k. record { row = rests 2 _ _ y k.2.0; j = k.0; sealing = k.2.1 }) x h

@@ -20,7 +20,7 @@ pub record Within (n : ℕ) (P : List Member → Type 0) (xs : List Member) : Ty
   pub few : turns ≤ n
   pub then_is : P (settle turns xs)
 
-settle_add : (m n : ℕ) (xs : List Member) → settle n (settle m xs) ≡ settle (m + n) xs
+pub settle_add : (m n : ℕ) (xs : List Member) → settle n (settle m xs) ≡ settle (m + n) xs
 settle_add zero n xs = let e : 0 + n ≡ n = omega arith in ap (λ k. settle k xs) (sym e)
 settle_add (suc m) n xs =
     let e : suc m + n ≡ suc (m + n) = omega arith in

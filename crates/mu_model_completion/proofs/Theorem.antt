@@ -49,7 +49,7 @@ module _ (p : Sending) where
       let misses : l.lacks_chunk missing_of k x.r ≡ true = ap (l.lacks_chunk missing_of k) row.r_is ∙ has_every (suc c) k lt in
       ap (λ b. l.to_group group (l.lacking_if x.r.row.address b ++ lacking missing_of (map receiver_in ps) k)) misses
 
-  group_lists : (p.group == 0) ≡ false → (b c : ℕ) → chunk_total p b ≡ suc c → (bs : List Bool) (ps : List Pair) → AllByRecursion (Row 2 bs (every_number (suc c)) true) ps → 1 ≤ length ps
+  pub group_lists : (p.group == 0) ≡ false → (b c : ℕ) → chunk_total p b ≡ suc c → (bs : List Bool) (ps : List Pair) → AllByRecursion (Row 2 bs (every_number (suc c)) true) ps → 1 ≤ length ps
       → chunk_items p b missing_of (map receiver_in ps) ≡ map (λ i. Sends p.group b i) (range_with_len 0 (suc c))
   group_lists g b c total bs [] h le = absurd (omega (arith, le))
   group_lists g b c total bs (x ∷ ps) h le =
@@ -124,10 +124,10 @@ module _ (laws : KeepsPlan) (fields : FieldsAreRead) (tiles : Tiles) (read : Met
   abbrev apart : Apart cs
   apart = w.apart laws fields tiles read tested plan image to members from
 
-  pushes : Pushes p
+  pub pushes : Pushes p
   pushes = pl.pushes tiles read tested plan image from.update push
 
-  abbrev Sends_ : ℕ → Type 0
+  abbrev pub Sends_ : ℕ → Type 0
   Sends_ mc =
       (b n c : ℕ) (total : chunk_total p b ≡ suc c) → b + suc n ≡ suc blocks → (bs : List Pair) (ys : List Member)
       → Station laws p meta config image (At (Chunks b)) (drop 16 (first_items laws p meta config image (Chunks b) bs)) (map (turn_in laws p meta config image (Chunks b) (take 16 (first_items laws p meta config image (Chunks b) bs))) bs) ys
@@ -150,20 +150,20 @@ module _ (laws : KeepsPlan) (fields : FieldsAreRead) (tiles : Tiles) (read : Met
   weaker b n c total [] h = tt
   weaker b n c total (x ∷ bs) h = ((h.0.0, chunked_longer fields tiles p meta image config.address blocks good q few whole chunk_some b n 0 (suc c) q (3 * q) x (omega arith) h.0.1), weaker b n c total bs h.1)
 
-  only_rows : (b n c : ℕ) (total : chunk_total p b ≡ suc c) (bs : List Pair) → AllByRecursion (Beginning laws fields tiles p meta config image blocks good q few whole chunk_some b n c total) bs
+  pub only_rows : (b n c : ℕ) (total : chunk_total p b ≡ suc c) (bs : List Pair) → AllByRecursion (Beginning laws fields tiles p meta config image blocks good q few whole chunk_some b n c total) bs
       → AllByRecursion (Row 2 (lacking_from b (suc n)) (every_number (suc c)) true) bs
   only_rows b n c total [] h = tt
   only_rows b n c total (x ∷ bs) h = (h.0.0, only_rows b n c total bs h.1)
 
-  configs_long : (qs : List Pair) → length (configs qs) ≡ length qs
+  pub configs_long : (qs : List Pair) → length (configs qs) ≡ length qs
   configs_long [] = refl
   configs_long (x ∷ qs) = ap suc (configs_long qs)
 
   -- sixteens of chunks, less one
-  abbrev group_mc : ℕ
+  abbrev pub group_mc : ℕ
   group_mc = sixteens (chunk_total p 0) - 1
 
-  group_sends : plan.sending.group ≢ 0 → Sends_ group_mc
+  pub group_sends : plan.sending.group ≢ 0 → Sends_ group_mc
   group_sends g b n c total sum bs ys s h same =
       let l = ap (length {A = NodeConfig}) same in
       let k = configs_long bs in
@@ -177,7 +177,7 @@ module _ (laws : KeepsPlan) (fields : FieldsAreRead) (tiles : Tiles) (read : Met
       no_zero : (g : ℕ) → g ≢ 0 → (g == 0) ≡ false
       no_zero g h = grind (arith, nat_tests, h)
 
-  some_total : 1 ≤ chunk_total p 0
+  pub some_total : 1 ≤ chunk_total p 0
   some_total = let t = total_is in some_chunk tiles p chunk_some 0 (omega (arith, t))
 
   by_group : plan.sending.group ≢ 0 → (n : ℕ) → push_turns p (length to) ≤ n → Completed config.address to (settle n members)

@@ -1,5 +1,5 @@
 -- An update in which nothing is lost, from its beginning to its end; how its blocks go depends on the mode.
-use Rattle.std.proofs.Common.{◌≡◌, ◌⊎◌, inl, inr, ◌<◌, ◌≤◌, ◌+◌, ◌-◌, ◌*◌, ◌==◌, ℕ, zero, suc, List, [], ◌∷◌, refl, sym, ap, ◌∙◌, subst, true, false, Bool, Option, Some, None, arith, map, length}
+use Rattle.std.proofs.Common.{◌≡◌, ◌⊎◌, inl, inr, ◌<◌, ◌≤◌, ◌+◌, ◌-◌, ◌*◌, ◌==◌, ℕ, suc, List, [], ◌∷◌, refl, sym, ap, ◌∙◌, subst, true, false, Bool, Option, Some, None, arith, map, length}
 use Rattle.std.specs.Prelude.{◌≢◌, ◌&&◌, ◌||◌, not, if◌then◌else◌}
 use Rattle.std.specs.List.{AllByRecursion}
 use Rattle.std.proofs.lemmas.Bool.{eq-eqb, eqb-true}
@@ -15,14 +15,14 @@ use Rattle.mu_model_client.specs.Client.{Client, row_of, Update, Before, At, Che
 use Rattle.mu_model_client.specs.Begin.{start, at_first, new_active, purpose_of}
 use Rattle.mu_model_client.specs.Told.{held_percent}
 use Rattle.mu_model_client_laws.specs.Laws.{KeepsPlan, FieldsAreRead}
-use Rattle.mu_model_completion.specs.Turn.{Member, IsUpdater, turn, settle}
+use Rattle.mu_model_completion.specs.Turn.{Member, IsUpdater, settle}
 use Rattle.mu_model_completion.specs.Completion.{Completed, drop_of, drops_in, drops_at, at_address, rows_at, rows_in, Takes, NoneTwice, CanBegin, sixteens, succeeded}
 use Rattle.mu_model_completion.proofs.Planned as pl
 use Rattle.mu_model_completion.proofs.Planned.{misses, no_more, some_chunk, has_every}
 use Rattle.mu_model_completion.proofs.Pairs.{Pair, receiver_in, IsHere}
 use Rattle.mu_model_completion.proofs.Nodes.{Offer}
 use Rattle.mu_model_completion.proofs.Receivers.{rcv, all_held}
-use Rattle.mu_model_completion.proofs.Stations.{Within, client_at}
+use Rattle.mu_model_completion.proofs.Stations.{settle_add, Within, client_at}
 use Rattle.mu_model_completion.proofs.Asking.{Apart, Misses, configs}
 use Rattle.mu_model_completion.proofs.First.{Good}
 use Rattle.mu_model_completion.proofs.Pieces.{lacking_from, all_are_held}
@@ -210,7 +210,7 @@ module _ (laws : KeepsPlan) (fields : FieldsAreRead) (tiles : Tiles) (read : Met
   all_first [] h = tt
   all_first (a ∷ rest) h = (first_pair a h.0, all_first rest h.1)
 
-  first_station : Reached laws fields tiles p meta config image blocks good whole chunk_some cs apart some q few fits q_some (Before Check) First_ members
+  pub first_station : Reached laws fields tiles p meta config image blocks good whole chunk_some cs apart some q few fits q_some (Before Check) First_ members
   first_station = record {
     qs = pairs plan image members to from.takes;
     station = record {
@@ -237,14 +237,14 @@ module _ (laws : KeepsPlan) (fields : FieldsAreRead) (tiles : Tiles) (read : Met
 
   -- ---- the rows at the end
 
-  configs_address : (as_ : List ℕ) (h : AllByRecursion (Takes plan members) as_) → map (λ (c : NodeConfig). c.address) (configs (pairs plan image members as_ h)) ≡ as_
+  pub configs_address : (as_ : List ℕ) (h : AllByRecursion (Takes plan members) as_) → map (λ (c : NodeConfig). c.address) (configs (pairs plan image members as_ h)) ≡ as_
   configs_address [] h = refl
   configs_address (a ∷ rest) h = cons_same (address_is plan image members a h.0) (configs_address rest h.1)
     where
       cons_same : {x y : ℕ} {xs ys : List ℕ} → x ≡ y → xs ≡ ys → (x ∷ xs) ≡ (y ∷ ys)
       cons_same e f = rw (e, f) refl
 
-  percent : (n : ℕ) → held_percent (lacking_from (suc n) 0) ≡ 100
+  pub percent : (n : ℕ) → held_percent (lacking_from (suc n) 0) ≡ 100
   percent n = ap held_percent (all_are_held (suc n)) ∙ all_held (suc n) (omega arith)
 
   abbrev IsOver : List Member → Type 0
@@ -284,10 +284,6 @@ module _ (laws : KeepsPlan) (fields : FieldsAreRead) (tiles : Tiles) (read : Met
       ap rows_in v.station.holds.updater
       ∙ ap Some (rows_are o.c v.qs v.all ∙ ap (map succeeded) (ap (λ es. map (λ (e : NodeConfig). e.address) es) v.same ∙ configs_address to from.takes))
 
-  settle_more : (m n : ℕ) (xs : List Member) → settle n (settle m xs) ≡ settle (m + n) xs
-  settle_more zero n xs = let e : 0 + n ≡ n = omega arith in ap (λ k. settle k xs) (sym e)
-  settle_more (suc m) n xs = let e : suc m + n ≡ suc (m + n) = omega arith in settle_more m n (turn xs) ∙ ap (λ k. settle k xs) (sym e)
-
   -- so many turns for the blocks
   pub completes : (m : ℕ)
       → ((ys : List Member) → Reached laws fields tiles p meta config image blocks good whole chunk_some cs apart some q few fits q_some (At Transfer)
@@ -300,5 +296,5 @@ module _ (laws : KeepsPlan) (fields : FieldsAreRead) (tiles : Tiles) (read : Met
       let rest : ℕ = n - w.turns in
       let e : w.turns + rest ≡ n = omega (arith, short, le) in
       let later = some_always laws fields tiles p meta config image blocks good whole chunk_some cs apart some q few fits q_some rest (settle w.turns members) w.then_is in
-      let there = (subst (λ k. IsOver (settle k members)) e (subst IsOver (settle_more w.turns rest members) later)) in
+      let there = (subst (λ k. IsOver (settle k members)) e (subst IsOver (settle_add w.turns rest members) later)) in
       record { rows = over_rows (settle n members) there; drops = over_drops (settle n members) there }

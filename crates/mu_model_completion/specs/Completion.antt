@@ -1,5 +1,5 @@
 -- How many turns an update takes in which nothing is lost.
-use Rattle.std.specs.Prelude.{ℕ, ◌≡◌, ◌≢◌, ◌<◌, ◌≤◌, ◌+◌, ◌*◌, ◌^◌, ◌⊎◌, ◌==◌, true, false, List, [], ◌∷◌, length, map, Option, Some, None, if◌then◌else◌}
+use Rattle.std.specs.Prelude.{ℕ, ◌≡◌, ◌≢◌, ◌<◌, ◌≤◌, ◌+◌, ◌-◌, ◌*◌, ◌^◌, ◌⊎◌, ◌==◌, true, false, List, [], ◌∷◌, length, map, Option, Some, None, if◌then◌else◌}
 use Rattle.std.specs.List.{AllByRecursion}
 use Rattle.mu_model_image.specs.Meta.{Image, IsMeta, IsFit, image_of}
 use Rattle.mu_model_image.specs.Pieces.{piece_count}
@@ -153,6 +153,21 @@ PushCompletes =
     → plan.sending.mode ≡ 1 → (n : ℕ) → push_turns plan.sending (length to) ≤ n
     → Completed from.config.address to (settle n members)
 
+-- the row of a receiver that makes the image active
+abbrev pub applying : ℕ → Row
+applying a = record { address = a; index = 0; phase = 6; update_status = 0; transfer_status = 0; progress = 100 }
+
+-- each block has as many chunks as the first
+abbrev pub AllFull : Sending → Type 0
+AllFull p = (b : ℕ) → b < block_total p → chunk_total p b ≡ chunk_total p 0
+
+-- and not a turn sooner, where each block is full and up to sixteen receivers are in a group
+abbrev pub PushTakesAll : Type 0
+PushTakesAll =
+    (plan : Plan) (image : List ℕ) (to : List ℕ) (members : List Member) (from : CanBegin plan image to members)
+    → plan.sending.mode ≡ 1 → (plan.sending.group == 0) ≡ false → length to ≤ 16 → AllFull plan.sending
+    → rows_at from.config.address (settle (push_turns plan.sending (length to) - 1) members) ≡ Some (map applying to)
+
 -- and in pull, where there is one receiver
 abbrev pub PullCompletes : Type 0
 PullCompletes =
@@ -172,7 +187,10 @@ abbrev pub members_64 : (version : ℕ) → List ℕ → List Member
 members_64 version image =
     record { config = record { address = 1; group = 0 }; moment = 0; part = IsUpdater (start (plan_64 version image) ((2, 0) ∷ (3, 0) ∷ (4, 0) ∷ [])) image } ∷ three_nodes
 
+-- and no sooner
+pub record After70And71 (version : ℕ) (image : List ℕ) : Type 0 where
+  pub seventy : rows_at 1 (settle 70 (members_64 version image)) ≡ Some (applying 2 ∷ applying 3 ∷ applying 4 ∷ [])
+  pub seventy_one : rows_at 1 (settle 71 (members_64 version image)) ≡ Some (succeeded 2 ∷ succeeded 3 ∷ succeeded 4 ∷ [])
+
 abbrev pub ThreeOver64KiB : Type 0
-ThreeOver64KiB =
-    (version : ℕ) (image : List ℕ) → 1 < version → version < 2 ^ 32 → length image ≡ 65536
-    → rows_at 1 (settle 71 (members_64 version image)) ≡ Some (succeeded 2 ∷ succeeded 3 ∷ succeeded 4 ∷ [])
+ThreeOver64KiB = (version : ℕ) (image : List ℕ) → 1 < version → version < 2 ^ 32 → length image ≡ 65536 → After70And71 version image

@@ -1,7 +1,7 @@
 //! Laws on whole updates in which nothing is lost: functions that do nothing, whose contracts are proved.
 
 ghost use Rattle.mu_model_completion.specs.Answering.{AnsweringStays};
-ghost use Rattle.mu_model_completion.specs.Completion.{PushCompletes, PullCompletes, ThreeOver64KiB};
+ghost use Rattle.mu_model_completion.specs.Completion.{PushCompletes, PushTakesAll, PullCompletes, ThreeOver64KiB};
 ghost use Rattle.mu_model_completion.specs.WorkedAnswering.{BesideTheSilent};
 ghost use Rattle.mu_model_completion.specs.Worked.{OneNodeCompletes, OneNodePulls, EqualVersionEnds, FirstBlock, ThreeComplete};
 
@@ -9,9 +9,11 @@ use mu_model_client_laws::laws::{fields_are_read, plans_stay};
 use mu_model_image::laws::{blocks, chunks, images, metadata};
 
 /// In push all receivers have the image after so many turns, and from then on, where nothing is lost: seven turns for each sixteen
-/// receivers, and for each block two for each sixteen receivers and one for each sixteen chunks.
+/// receivers, and for each block two for each sixteen receivers and one for each sixteen chunks. Where each block is full and up to
+/// sixteen receivers are in a group, not a turn sooner.
 pub fn push_completes()
-    ensures { PushCompletes }
+    ensures completes { PushCompletes }
+    ensures takes_all { PushTakesAll }
 {
     plans_stay();
     fields_are_read();
@@ -34,7 +36,7 @@ pub fn pull_completes()
     chunks();
 }
 
-/// Three receivers have 64 KiB after 71 turns, whatever the image.
+/// Three receivers have 64 KiB after 71 turns, and not after 70, whatever the image.
 pub fn three_over_64_kib()
     ensures { ThreeOver64KiB }
 {
