@@ -3,7 +3,8 @@ use Rattle.std.proofs.Common.{◌≡◌, ◌⊎◌, inl, inr, ◌<◌, ◌≤◌
 use Rattle.std.specs.Prelude.{◌||◌}
 use Rattle.std.specs.List.{flat_map, list_any, range_with_len, AllByRecursion}
 use Rattle.mu_model_node.specs.declared.NodeConfig.{NodeConfig}
-use Rattle.mu_model_node.specs.NodeMessages.{Request}
+use Rattle.mu_model_node.specs.BlobMessages.{BlockGet}
+use Rattle.mu_model_node.specs.NodeMessages.{Request, OfBlob}
 use Rattle.mu_model_client.specs.declared.Sending.{Sending}
 use Rattle.mu_model_client.specs.Sets.{below}
 use Rattle.mu_model_client.specs.Client.{Receiver, is_pending, Item, Says, Sends, chunk_total}
@@ -106,38 +107,84 @@ module _ (config : NodeConfig) where
 
   -- ---- chunks
 
-  abbrev pub IsSends : Item → Type 0
-  IsSends (Says to request) = ⊥
-  IsSends (Sends to b k) = Unit {0}
+  -- a chunk or a Block Get, as may be left of a list
+  abbrev pub IsLeft : Item → Type 0
+  IsLeft (Says to request) = request ≡ OfBlob BlockGet
+  IsLeft (Sends to b k) = Unit {0}
 
-  abbrev pub AllSends : List Item → Type 0
-  AllSends is = AllByRecursion IsSends is
+  abbrev pub AllLeft : List Item → Type 0
+  AllLeft is = AllByRecursion IsLeft is
 
-  pub sends_append : (xs ys : List Item) → AllSends xs → AllSends ys → AllSends (xs ++ ys)
+  -- and of this block
+  abbrev pub IsOf : ℕ → Item → Type 0
+  IsOf b (Says to request) = request ≡ OfBlob BlockGet
+  IsOf b (Sends to e k) = e ≡ b
+
+  abbrev pub AllOf : ℕ → List Item → Type 0
+  AllOf b is = AllByRecursion (IsOf b) is
+
+  pub of_left : (b : ℕ) (is : List Item) → AllOf b is → AllLeft is
+  of_left b [] h = tt
+  of_left b (Says to request ∷ is) h = (h.0, of_left b is h.1)
+  of_left b (Sends to e k ∷ is) h = (tt, of_left b is h.1)
+
+  of_first : (b : ℕ) (its : Bool) (x : Item) (xs : List Item) → IsOf b x → AllOf b xs → AllOf b (first_if its x xs)
+  of_first b true x xs h k = (h, k)
+  of_first b false x xs h k = k
+
+  pub mine_of : (b : ℕ) (xs : List Item) → AllOf b xs → AllOf b (mine xs)
+  mine_of b [] h = tt
+  mine_of b (x ∷ xs) h = of_first b (reaches (is_to x) config) x (mine xs) h.0 (mine_of b xs h.1)
+
+  of_append : (b : ℕ) (xs ys : List Item) → AllOf b xs → AllOf b ys → AllOf b (xs ++ ys)
+  of_append b [] ys h k = k
+  of_append b (x ∷ xs) ys h k = (h.0, of_append b xs ys h.1 k)
+
+  to_all_of : (b k : ℕ) (tos : List ℕ) → AllOf b (map (λ to. Sends to b k) tos)
+  to_all_of b k [] = tt
+  to_all_of b k (to ∷ tos) = (refl, to_all_of b k tos)
+
+  flat_of : (b : ℕ) (f : ℕ → List Item) → ((k : ℕ) → AllOf b (f k)) → (ks : List ℕ) → AllOf b (flat_map f ks)
+  flat_of b f h [] = tt
+  flat_of b f h (k ∷ ks) = of_append b (f k) (flat_map f ks) (h k) (flat_of b f h ks)
+
+  pub chunks_are_of : (p : Sending) (b : ℕ) (missing : Receiver → List Bool) (rs : List Receiver) → AllOf b (chunk_items p b missing rs)
+  chunks_are_of p b missing rs =
+      flat_of b (λ k. map (λ to. Sends to b k) (l.destinations p (lacking missing rs k))) (λ k. to_all_of b k (l.destinations p (lacking missing rs k))) (below (chunk_total p b))
+
+  -- a Block Get is among them
+  abbrev pub is_get : Item → Bool
+  is_get (Says to request) = true
+  is_get (Sends to b k) = false
+
+  abbrev pub has_get : List Item → Bool
+  has_get is = list_any is_get is
+
+  pub sends_append : (xs ys : List Item) → AllLeft xs → AllLeft ys → AllLeft (xs ++ ys)
   sends_append [] ys h k = k
   sends_append (x ∷ xs) ys h k = (h.0, sends_append xs ys h.1 k)
 
-  pub sends_left : (xs ys : List Item) → AllSends (xs ++ ys) → AllSends xs × AllSends ys
+  pub sends_left : (xs ys : List Item) → AllLeft (xs ++ ys) → AllLeft xs × AllLeft ys
   sends_left [] ys h = (tt, h)
   sends_left (x ∷ xs) ys h = let r = sends_left xs ys h.1 in ((h.0, r.0), r.1)
 
-  one_first : (b : Bool) (x : Item) (xs : List Item) → IsSends x → AllSends xs → AllSends (first_if b x xs)
+  one_first : (b : Bool) (x : Item) (xs : List Item) → IsLeft x → AllLeft xs → AllLeft (first_if b x xs)
   one_first true x xs h k = (h, k)
   one_first false x xs h k = k
 
-  pub mine_sends : (xs : List Item) → AllSends xs → AllSends (mine xs)
+  pub mine_sends : (xs : List Item) → AllLeft xs → AllLeft (mine xs)
   mine_sends [] h = tt
   mine_sends (x ∷ xs) h = one_first (reaches (is_to x) config) x (mine xs) h.0 (mine_sends xs h.1)
 
-  to_all : (b k : ℕ) (tos : List ℕ) → AllSends (map (λ to. Sends to b k) tos)
+  to_all : (b k : ℕ) (tos : List ℕ) → AllLeft (map (λ to. Sends to b k) tos)
   to_all b k [] = tt
   to_all b k (to ∷ tos) = (tt, to_all b k tos)
 
-  flat_sends : (f : ℕ → List Item) → ((k : ℕ) → AllSends (f k)) → (ks : List ℕ) → AllSends (flat_map f ks)
+  flat_sends : (f : ℕ → List Item) → ((k : ℕ) → AllLeft (f k)) → (ks : List ℕ) → AllLeft (flat_map f ks)
   flat_sends f h [] = tt
   flat_sends f h (k ∷ ks) = sends_append (f k) (flat_map f ks) (h k) (flat_sends f h ks)
 
-  pub chunks_are_sends : (p : Sending) (b : ℕ) (missing : Receiver → List Bool) (rs : List Receiver) → AllSends (chunk_items p b missing rs)
+  pub chunks_are_sends : (p : Sending) (b : ℕ) (missing : Receiver → List Bool) (rs : List Receiver) → AllLeft (chunk_items p b missing rs)
   chunks_are_sends p b missing rs =
       flat_sends (λ k. map (λ to. Sends to b k) (l.destinations p (lacking missing rs k))) (λ k. to_all b k (l.destinations p (lacking missing rs k))) (below (chunk_total p b))
 

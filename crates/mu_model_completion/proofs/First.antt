@@ -71,6 +71,11 @@ pub record Pushes (p : Sending) : Type 0 where
   pub push : (p.mode == 1) ≡ true
   pub no_pull : (p.mode == 2) ≡ false
 
+-- and in pull
+pub record Pulls (p : Sending) : Type 0 where
+  pub no_push : (p.mode == 1) ≡ false
+  pub pull : (p.mode == 2) ≡ true
+
 -- a plan in its ranges
 pub record Good (p : Sending) (blocks : ℕ) : Type 0 where
   pub long : (nat_lt 376 p.chunk || nat_lt 2048 (full_chunks p)) ≡ false

@@ -35,3 +35,5 @@ pub mod PullTurns
 pub mod PullTheorem
 pub mod Exact
 pub mod Sharp
+pub mod Partly
+pub mod PullMoments

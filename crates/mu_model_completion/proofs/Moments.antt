@@ -40,10 +40,10 @@ module _ (f : ℕ → NodeState) (at_ : (m k : ℕ) → at_moment (f m) k ≡ f 
   same_max : max (max m now) (max m now) ≡ max m now
   same_max = omega arith
 
-  timed_later : node_timed now (f m) ≡ passes (f m) (max m now)
+  pub timed_later : node_timed now (f m) ≡ passes (f m) (max m now)
   timed_later = ap (λ s. on_time s (update_phase s)) both
 
-  asked_later : (u : ℕ) (request : Request) → on_request (at_moment (f m) now) u request ≡ asks (f (max m now)) u request (max m now)
+  pub asked_later : (u : ℕ) (request : Request) → on_request (at_moment (f m) now) u request ≡ asks (f (max m now)) u request (max m now)
   asked_later u request = ap (λ s. on_request s u request) (at_ m now ∙ (ap f (sym same_max) ∙ sym (at_ (max m now) (max m now))))
 
 -- an outcome without replies, and with one
@@ -55,10 +55,10 @@ pub record Says (u : ℕ) (reply : Reply) (P : NodeState → Type 0) (o : Outcom
   pub next : P o.next
   pub says : o.replies ≡ (u, reply) ∷ []
 
-quiet_at : (P : NodeState → Type 0) (o e : Outcome) (next : NodeState) → o ≡ e → Does e next [] → P next → Quiet P o
+pub quiet_at : (P : NodeState → Type 0) (o e : Outcome) (next : NodeState) → o ≡ e → Does e next [] → P next → Quiet P o
 quiet_at P o e next same does holds = subst (Quiet P) (sym same) (record { next = subst P (sym does.next_is) holds; silent = does.says })
 
-says_at : (u : ℕ) (reply : Reply) (P : NodeState → Type 0) (o e : Outcome) (next : NodeState) → o ≡ e → Does e next ((u, reply) ∷ []) → P next → Says u reply P o
+pub says_at : (u : ℕ) (reply : Reply) (P : NodeState → Type 0) (o e : Outcome) (next : NodeState) → o ≡ e → Does e next ((u, reply) ∷ []) → P next → Says u reply P o
 says_at u reply P o e next same does holds = subst (Says u reply P) (sym same) (record { next = subst P (sym does.next_is) holds; says = does.says })
 
 pub few : 4 * 1 < 99
@@ -150,13 +150,13 @@ module _ (fields : FieldsAreRead) (tiles : Tiles) (p : Sending) (meta : Meta) (i
   abbrev pub LinkStands : ℕ → NodeState → Type 0
   LinkStands now s = (update_number (update_phase (node_timed now s).next) == 1) ≡ false
 
-  true_false : {A : Type 0} → true ≡ false → A
+  pub true_false : {A : Type 0} → true ≡ false → A
   true_false h = absurd (no h)
     where
       no : true ≡ false → ⊥
       no e = grind (arith, e)
 
-  before_end : (h n k : ℕ) → nat_le (h + k) n ≡ false → n < h + k
+  pub before_end : (h n k : ℕ) → nat_le (h + k) n ≡ false → n < h + k
   before_end h n k e = grind (arith, nat_tests, e)
 
   pub idle_time : (s : NodeState) (now : ℕ) → IsIdle s → Quiet IsIdle (node_timed now s)

@@ -17,7 +17,7 @@ use Rattle.mu_model_completion.specs.Completion.{IsUpdate, CanTake}
 use Rattle.mu_model_completion.specs.Answering.{reaches}
 use Rattle.mu_model_completion.proofs.Asking.{Misses}
 use Rattle.mu_model_completion.proofs.Nodes.{Offer}
-use Rattle.mu_model_completion.proofs.First.{Good, Pushes}
+use Rattle.mu_model_completion.proofs.First.{Good, Pushes, Pulls}
 use Rattle.mu_model_completion.proofs.Pieces.{fewer_pieces}
 use Rattle.mu_model_completion.proofs.Blocks.{Tiles}
 
@@ -138,6 +138,9 @@ module _ (tiles : Tiles) (read : MetaIsReadBack) (tested : FitIsTested) (plan : 
 
   pub pushes : p.mode ≡ 1 → Pushes p
   pushes push = record { push = eq-eqb p.mode 1 push; no_pull = (let e = push in grind (arith, nat_tests, e)) }
+
+  pub pulls : p.mode ≡ 2 → Pulls p
+  pulls pull = record { no_push = (let e = pull in grind (arith, nat_tests, e)); pull = eq-eqb p.mode 2 pull }
 
   pub counts : (b : ℕ) → b < suc blocks → (c : ℕ) × (chunk_total p b ≡ suc c)
   counts b lt =

@@ -1,4 +1,4 @@
--- Where a receiver that answers stands in an update in push: what the client knows of it, what is still to be sent to its node,
+-- Where a receiver that answers stands in an update: what the client knows of it, what is still to be sent to its node,
 -- and what its node is in.
 use Rattle.std.proofs.Common.{◌≡◌, ◌==◌, ◌⊎◌, inl, inr, ◌<◌, ◌+◌, ℕ, zero, suc, List, [], ◌∷◌, true, false, Bool, Option, Some, None, map, length}
 use Rattle.std.specs.List.{range_with_len}
@@ -8,22 +8,25 @@ use Rattle.mu_model_wire.specs.Reports.{every_number}
 use Rattle.mu_model_node.specs.declared.NodeConfig.{NodeConfig}
 use Rattle.mu_model_node.specs.declared.LastBlock.{LastBlock}
 use Rattle.mu_model_node.specs.Slots.{Slots, is_full}
-use Rattle.mu_model_node.specs.BlobMessages.{BlobInformationGet, BlockGet}
+use Rattle.mu_model_node.specs.BlobMessages.{BlobInformationGet, BlockGet, PartialBlockReport}
 use Rattle.mu_model_node.specs.UpdateMessages.{MetadataCheck, UpdateGet, UpdateApply, InformationGet}
-use Rattle.mu_model_node.specs.NodeMessages.{Request, OfUpdate, OfBlob}
+use Rattle.mu_model_node.specs.NodeMessages.{Request, OfUpdate, OfBlob, Reply, ByBlob}
 use Rattle.mu_model_node.specs.NodeState.{NodeState}
 use Rattle.mu_model_node.specs.NodeOutcome.{Outcome}
 use Rattle.mu_model_client.specs.declared.Sending.{Sending}
 use Rattle.mu_model_client.specs.Sets.{has_some}
-use Rattle.mu_model_client.specs.Client.{Receiver, Item, Says, Sends, Place, Before, At, Ended, Applying, Step, Check, Start, Information, Transfer, Block, Chunks, Get, Verify, Apply, Confirm, chunk_total}
+use Rattle.mu_model_client.specs.Client.{Receiver, Item, Says, Sends, Place, Before, At, Ended, Applying, Step, Check, Start, Information, Transfer, Block, Chunks, Pull, Get, Verify, Apply, Confirm, chunk_total}
 use Rattle.mu_model_client_laws.specs.Laws.{KeepsPlan, FieldsAreRead}
 use Rattle.mu_model_completion.specs.Answering.{node_timed}
 use Rattle.mu_model_completion.proofs.Nodes.{Offer}
-use Rattle.mu_model_completion.proofs.First.{Good}
+use Rattle.mu_model_completion.proofs.First.{Good, Pushes, Pulls}
 use Rattle.mu_model_completion.proofs.Pieces.{lacking_from, not_full}
 use Rattle.mu_model_completion.proofs.Blocks.{Tiles, blk}
 use Rattle.mu_model_completion.proofs.Receivers.{rcv}
-use Rattle.mu_model_completion.proofs.Among.{AllSends}
+use Rattle.mu_model_completion.proofs.Among.{AllLeft, AllOf, has_get}
+use Rattle.mu_model_completion.proofs.Partly.{Some_below}
+use Rattle.mu_model_completion.proofs.PullMoments as pm
+use Rattle.mu_model_completion.proofs.PullMoments.{IsPulling}
 use Rattle.mu_model_completion.proofs.Moments as m
 use Rattle.mu_model_completion.proofs.Moments.{few, Quiet, Says as Replies, IsIdle, IsTaken, IsRunning, IsSealed, IsApplied, IsDone}
 
@@ -33,10 +36,15 @@ IsBetween Transfer = Unit {0}
 IsBetween (Block b) = Unit {0}
 IsBetween (Chunks b) = Unit {0}
 IsBetween (Get b) = Unit {0}
+IsBetween (Pull b) = Unit {0}
 IsBetween _ = ⊥
 
 pub quiet_as : (P Q : NodeState → Type 0) → ((s : NodeState) → P s → Q s) → (o : Outcome) → Quiet P o → Quiet Q o
 quiet_as P Q f o h = record { next = f o.next h.next; silent = h.silent }
+
+pub record OutcomeSo (P : NodeState → Type 0) (R : List (ℕ × Reply) → Type 0) (o : Outcome) : Type 0 where
+  pub next : P o.next
+  pub replied : R o.replies
 
 module _ (laws : KeepsPlan) (fields : FieldsAreRead) (tiles : Tiles) (p : Sending) (meta : Meta) (image : List ℕ) (blocks : ℕ) (good : Good p blocks) (whole : length image ≡ p.size) (chunk_some : 0 < p.chunk)
     (capacity : ℕ) (active : Image) (images : List Image) (o : Offer p meta image capacity active) (config : NodeConfig) where
@@ -67,6 +75,9 @@ module _ (laws : KeepsPlan) (fields : FieldsAreRead) (tiles : Tiles) (p : Sendin
   In k n j rem before s =
       IsRunning fields tiles p meta image blocks good whole chunk_some capacity active images o u (held k (suc n))
       (Some (m.current fields tiles p meta image blocks good whole chunk_some capacity active images o u k (m.got fields tiles p meta image blocks good whole chunk_some capacity active images o u k j rem))) before s
+
+  abbrev pub PullIn : (k n c : ℕ) → NodeState → Type 0
+  PullIn k n c s = IsPulling fields tiles p meta image blocks good whole chunk_some capacity active images o u k n c s
 
   abbrev pub all_slots : Slots
   all_slots = held (suc blocks) 0
@@ -117,7 +128,8 @@ module _ (laws : KeepsPlan) (fields : FieldsAreRead) (tiles : Tiles) (p : Sendin
     Checked : Said
     Started : Said
     Informed : Said
-    Opened : (k n c : ℕ) → k + suc n ≡ suc blocks → chunk_total p k ≡ suc c → Said
+    Opened : (k n c : ℕ) → k + suc n ≡ suc blocks → chunk_total p k ≡ suc c → Pushes p → Said
+    OpenedPull : (k n c : ℕ) → k + suc n ≡ suc blocks → chunk_total p k ≡ suc c → Pulls p → Said
     Verified : Said
     Asked : Said
     Confirmed : Said
@@ -127,8 +139,9 @@ module _ (laws : KeepsPlan) (fields : FieldsAreRead) (tiles : Tiles) (p : Sendin
     First : Spot
     Asking : Ask → List Bool → Spot
     After : Said → List Bool → Spot
-    Between : (step : Step) → IsBetween step → (k n : ℕ) → k + n ≡ suc blocks → (chunks : List Bool) → has_some chunks ≡ false → Spot
-    Chunking : (k n c j rem : ℕ) → k + suc n ≡ suc blocks → chunk_total p k ≡ suc c → j + rem ≡ suc c → Spot
+    Between : (step : Step) → IsBetween step → (k n : ℕ) → k + n ≡ suc blocks → (chunks : List Bool) → has_some chunks ≡ false → (heard : Bool) → (silent : ℕ) → Spot
+    Chunking : (k n c j rem : ℕ) → k + suc n ≡ suc blocks → chunk_total p k ≡ suc c → j + rem ≡ suc c → Pushes p → Spot
+    Pulling : (k n c : ℕ) → k + suc n ≡ suc blocks → chunk_total p k ≡ suc c → Pulls p → (chunks : List Bool) → has_some chunks ≡ true → (wanted : List Bool) → (heard : Bool) → (silent : ℕ) → Spot
     Over : List Bool → Spot
 
   abbrev pub none : List Bool
@@ -162,7 +175,8 @@ module _ (laws : KeepsPlan) (fields : FieldsAreRead) (tiles : Tiles) (p : Sendin
   said_in Checked = Check
   said_in Started = Start
   said_in Informed = Information
-  said_in (Opened k n c sum total) = Block k
+  said_in (Opened k n c sum total pushes) = Block k
+  said_in (OpenedPull k n c sum total pulls) = Block k
   said_in Verified = Verify
   said_in Asked = Apply
   said_in Confirmed = Confirm
@@ -171,8 +185,9 @@ module _ (laws : KeepsPlan) (fields : FieldsAreRead) (tiles : Tiles) (p : Sendin
   place_of First = Before Check
   place_of (Asking ask chunks) = At (step_of ask)
   place_of (After said chunks) = At (said_in said)
-  place_of (Between step is k n sum chunks without) = At step
-  place_of (Chunking k n c j rem sum total all) = At (Chunks k)
+  place_of (Between step is k n sum chunks without heard silent) = At step
+  place_of (Chunking k n c j rem sum total all pushes) = At (Chunks k)
+  place_of (Pulling k n c sum total pulls chunks some wanted heard silent) = At (Pull k)
   place_of (Over chunks) = Ended Applying
 
   -- ---- what the client knows
@@ -192,7 +207,8 @@ module _ (laws : KeepsPlan) (fields : FieldsAreRead) (tiles : Tiles) (p : Sendin
   answered Checked chunks = rcv a 10 [] [] false
   answered Started chunks = rcv a 2 [] [] false
   answered Informed chunks = rcv a 2 [] [] false
-  answered (Opened k n c sum total) chunks = rcv a 2 (lacking_from k (suc n)) (every_number (suc c)) false
+  answered (Opened k n c sum total pushes) chunks = rcv a 2 (lacking_from k (suc n)) (every_number (suc c)) false
+  answered (OpenedPull k n c sum total pulls) chunks = rcv a 2 (lacking_from k (suc n)) (every_number (suc c)) false
   answered Verified chunks = rcv a 4 none chunks false
   answered Asked chunks = rcv a 6 none chunks false
   answered Confirmed chunks = rcv a 8 none chunks false
@@ -201,11 +217,16 @@ module _ (laws : KeepsPlan) (fields : FieldsAreRead) (tiles : Tiles) (p : Sendin
   row_of First = rcv a 10 [] [] false
   row_of (Asking ask chunks) = waiting ask chunks
   row_of (After said chunks) = answered said chunks
-  row_of (Between step is k n sum chunks without) = rcv a 2 (lacking_from k n) chunks false
-  row_of (Chunking k n c j rem sum total all) = rcv a 2 (lacking_from k (suc n)) (every_number (suc c)) true
+  row_of (Between step is k n sum chunks without heard silent) = record (rcv a 2 (lacking_from k n) chunks false) { heard = heard; silent = silent }
+  row_of (Chunking k n c j rem sum total all pushes) = rcv a 2 (lacking_from k (suc n)) (every_number (suc c)) true
+  row_of (Pulling k n c sum total pulls chunks some wanted heard silent) = record (rcv a 2 (lacking_from k (suc n)) chunks true) { heard = heard; silent = silent; wanted = wanted }
   row_of (Over chunks) = rcv a 8 none chunks false
 
   -- ---- what is still to be sent to its node; chunks go to its address or to its group
+
+  -- in pull it was heard of late, or will be asked
+  abbrev pub IsHeard : Bool → ℕ → List Item → Type 0
+  IsHeard heard silent list = (silent ≡ 0) ⊎ ((silent ≡ 1) × ((heard ≡ true) ⊎ (has_get config list ≡ true)))
 
   module _ (to : ℕ) where
     abbrev pub chunks_to : (k j rem : ℕ) → List Item
@@ -215,8 +236,9 @@ module _ (laws : KeepsPlan) (fields : FieldsAreRead) (tiles : Tiles) (p : Sendin
     ListOf First list = list ≡ []
     ListOf (Asking ask chunks) list = list ≡ Says a (request_of ask) ∷ []
     ListOf (After said chunks) list = list ≡ []
-    ListOf (Between step is k n sum chunks without) list = AllSends config list
-    ListOf (Chunking k n c j rem sum total all) list = list ≡ chunks_to k j rem
+    ListOf (Between step is k n sum chunks without heard silent) list = AllLeft config list
+    ListOf (Chunking k n c j rem sum total all pushes) list = list ≡ chunks_to k j rem
+    ListOf (Pulling k n c sum total pulls chunks some wanted heard silent) list = AllOf config k list × IsHeard heard silent list
     ListOf (Over chunks) list = list ≡ []
 
   -- ---- its node, and what it is in after its time event
@@ -240,7 +262,8 @@ module _ (laws : KeepsPlan) (fields : FieldsAreRead) (tiles : Tiles) (p : Sendin
   SaidNode Checked s = Idle s
   SaidNode Started s = Taken s
   SaidNode Informed s = Taken s
-  SaidNode (Opened k n c sum total) s = (before : Option LastBlock) × In k n 0 (suc c) before s
+  SaidNode (Opened k n c sum total pushes) s = (before : Option LastBlock) × In k n 0 (suc c) before s
+  SaidNode (OpenedPull k n c sum total pulls) s = PullIn k n c s
   SaidNode Verified s = (before : Option LastBlock) × Sealed before s
   SaidNode Asked s = Applied s ⊎ Done s
   SaidNode Confirmed s = Done s
@@ -253,16 +276,18 @@ module _ (laws : KeepsPlan) (fields : FieldsAreRead) (tiles : Tiles) (p : Sendin
   NodeOf First s = Idle s
   NodeOf (Asking ask chunks) s = AskNode ask s
   NodeOf (After said chunks) s = SaidNode said s
-  NodeOf (Between step is k n sum chunks without) s = (before : Option LastBlock) × Holds k n before s
-  NodeOf (Chunking k n c j rem sum total all) s = Chunked k n j rem s
+  NodeOf (Between step is k n sum chunks without heard silent) s = (before : Option LastBlock) × Holds k n before s
+  NodeOf (Chunking k n c j rem sum total all pushes) s = Chunked k n j rem s
+  NodeOf (Pulling k n c sum total pulls chunks some wanted heard silent) s = PullIn k n c s
   NodeOf (Over chunks) s = Done s
 
   abbrev pub NodeNow : Spot → NodeState → Type 0
   NodeNow First s = Idle s
   NodeNow (Asking ask chunks) s = AskNow ask s
   NodeNow (After said chunks) s = SaidNow said s
-  NodeNow (Between step is k n sum chunks without) s = (before : Option LastBlock) × HoldsNow k n before s
-  NodeNow (Chunking k n c j rem sum total all) s = ChunkedNow k n j rem s
+  NodeNow (Between step is k n sum chunks without heard silent) s = (before : Option LastBlock) × HoldsNow k n before s
+  NodeNow (Chunking k n c j rem sum total all pushes) s = ChunkedNow k n j rem s
+  NodeNow (Pulling k n c sum total pulls chunks some wanted heard silent) s = PullIn k n c s
   NodeNow (Over chunks) s = Done s
 
   -- ---- what it is in now, it is in
@@ -286,7 +311,8 @@ module _ (laws : KeepsPlan) (fields : FieldsAreRead) (tiles : Tiles) (p : Sendin
   said_now Checked s h = h
   said_now Started s h = h
   said_now Informed s h = h
-  said_now (Opened k n c sum total) s h = h
+  said_now (Opened k n c sum total pushes) s h = h
+  said_now (OpenedPull k n c sum total pulls) s h = h
   said_now Verified s h = h
   said_now Asked s h = inr h
   said_now Confirmed s h = h
@@ -299,16 +325,33 @@ module _ (laws : KeepsPlan) (fields : FieldsAreRead) (tiles : Tiles) (p : Sendin
   node_now First s h = h
   node_now (Asking ask chunks) s h = ask_now ask s h
   node_now (After said chunks) s h = said_now said s h
-  node_now (Between step is k n sum chunks without) s h = (h.0, holds_now k n h.0 s h.1)
-  node_now (Chunking k n c j rem sum total all) s h = chunked_now k n j rem s h
+  node_now (Between step is k n sum chunks without heard silent) s h = (h.0, holds_now k n h.0 s h.1)
+  node_now (Chunking k n c j rem sum total all pushes) s h = chunked_now k n j rem s h
+  node_now (Pulling k n c sum total pulls chunks some wanted heard silent) s h = h
   node_now (Over chunks) s h = h
+
+  -- ---- what the node says in time: in pull it may report
+
+  abbrev pub MayReport : ℕ → List (ℕ × Reply) → Type 0
+  MayReport c replies = (replies ≡ []) ⊎ ((ks : List ℕ) × Some_below (suc c) ks × (replies ≡ (u, ByBlob (PartialBlockReport ks)) ∷ []))
+
+  abbrev pub SaidReplies : Said → List (ℕ × Reply) → Type 0
+  SaidReplies (OpenedPull k n c sum total pulls) replies = MayReport c replies
+  SaidReplies said replies = replies ≡ []
+
+  abbrev pub Replied : Spot → List (ℕ × Reply) → Type 0
+  Replied (After said chunks) replies = SaidReplies said replies
+  Replied (Pulling k n c sum total pulls chunks some wanted heard silent) replies = MayReport c replies
+  Replied spot replies = replies ≡ []
 
   -- ---- time
 
-  module _ (s : NodeState) (now : ℕ) (stands : m.LinkStands fields tiles p meta image blocks good whole chunk_some capacity active images o u now s)
-      (no_pull : (p.mode == 2) ≡ false) where
+  module _ (s : NodeState) (now : ℕ) (stands : m.LinkStands fields tiles p meta image blocks good whole chunk_some capacity active images o u now s) where
     abbrev Timed : (NodeState → Type 0) → Type 0
     Timed P = Quiet P (node_timed now s)
+
+    abbrev pub TimedSo : (NodeState → Type 0) → (List (ℕ × Reply) → Type 0) → Type 0
+    TimedSo P R = OutcomeSo P R (node_timed now s)
 
     short : (k n : ℕ) → is_full (held k (suc n)) ≡ false
     short k n = not_full (blk fields tiles p meta image u blocks good 1 few whole chunk_some) k 0 n
@@ -322,8 +365,8 @@ module _ (laws : KeepsPlan) (fields : FieldsAreRead) (tiles : Tiles) (p : Sendin
     running_timed : (k n : ℕ) (before : Option LastBlock) → Running (held k (suc n)) before s → Timed (Running (held k (suc n)) before)
     running_timed k n before h = m.between_time fields tiles p meta image blocks good whole chunk_some capacity active images o u (held k (suc n)) before (short k n) s now h stands
 
-    in_timed : (k n j rem : ℕ) (before : Option LastBlock) → In k n j rem before s → Timed (In k n j rem before)
-    in_timed k n j rem before h = m.block_time fields tiles p meta image blocks good whole chunk_some capacity active images o u no_pull (held k (suc n)) _ before (short k n) s now h stands
+    in_timed : (p.mode == 2) ≡ false → (k n j rem : ℕ) (before : Option LastBlock) → In k n j rem before s → Timed (In k n j rem before)
+    in_timed no_pull k n j rem before h = m.block_time fields tiles p meta image blocks good whole chunk_some capacity active images o u no_pull (held k (suc n)) _ before (short k n) s now h stands
 
     sealed_timed : (before : Option LastBlock) → Sealed before s → Timed (Sealed before)
     sealed_timed before h = m.sealed_time fields tiles p meta image blocks good whole chunk_some capacity active images o u all_slots before s now h
@@ -347,25 +390,34 @@ module _ (laws : KeepsPlan) (fields : FieldsAreRead) (tiles : Tiles) (p : Sendin
     ask_timed Applies h = quiet_as (Sealed h.0) (AskNow Applies) (λ z w. (h.0, w)) (node_timed now s) (sealed_timed h.0 h.1)
     ask_timed Confirms h = done_timed h
 
-    said_timed : (said : Said) → SaidNode said s → Timed (SaidNow said)
-    said_timed Checked h = idle_timed h
-    said_timed Started h = taken_timed h
-    said_timed Informed h = taken_timed h
-    said_timed (Opened k n c sum total) h = quiet_as (In k n 0 (suc c) h.0) (SaidNow (Opened k n c sum total)) (λ z w. (h.0, w)) (node_timed now s) (in_timed k n 0 (suc c) h.0 h.1)
-    said_timed Verified h = quiet_as (Sealed h.0) (SaidNow Verified) (λ z w. (h.0, w)) (node_timed now s) (sealed_timed h.0 h.1)
-    said_timed Asked (inl h) = m.activates fields tiles p meta image blocks good whole chunk_some capacity active images o u all_slots h.0 s now h.1
-    said_timed Asked (inr h) = done_timed h
-    said_timed Confirmed h = done_timed h
+    none_said : (P : NodeState → Type 0) → Timed P → TimedSo P (λ replies. replies ≡ [])
+    none_said P h = record { next = h.next; replied = h.silent }
 
-    chunked_timed : (k n j rem : ℕ) → Chunked k n j rem s → Timed (ChunkedNow k n j rem)
-    chunked_timed k n j zero h = holds_timed (suc k) n (Some (last k)) h
-    chunked_timed k n j (suc rem) h = quiet_as (In k n j (suc rem) h.0) (ChunkedNow k n j (suc rem)) (λ z w. (h.0, w)) (node_timed now s) (in_timed k n j (suc rem) h.0 h.1)
+    reported : (k n c : ℕ) → Pulls p → PullIn k n c s → TimedSo (PullIn k n c) (MayReport c)
+    reported k n c pulls h = let r = pm.pulling_time fields tiles p meta image blocks good whole chunk_some capacity active images o u pulls.pull k n c s now h stands in record { next = r.next; replied = r.says }
 
-    pub spot_timed : (spot : Spot) → NodeOf spot s → Timed (NodeNow spot)
-    spot_timed First h = idle_timed h
-    spot_timed (Asking ask chunks) h = ask_timed ask h
+    said_timed : (said : Said) → SaidNode said s → TimedSo (SaidNow said) (SaidReplies said)
+    said_timed Checked h = none_said (SaidNow Checked) (idle_timed h)
+    said_timed Started h = none_said (SaidNow Started) (taken_timed h)
+    said_timed Informed h = none_said (SaidNow Informed) (taken_timed h)
+    said_timed (Opened k n c sum total pushes) h = none_said (SaidNow (Opened k n c sum total pushes)) (quiet_as (In k n 0 (suc c) h.0) (SaidNow (Opened k n c sum total pushes)) (λ z w. (h.0, w)) (node_timed now s) (in_timed pushes.no_pull k n 0 (suc c) h.0 h.1))
+    said_timed (OpenedPull k n c sum total pulls) h = reported k n c pulls h
+    said_timed Verified h = none_said (SaidNow Verified) (quiet_as (Sealed h.0) (SaidNow Verified) (λ z w. (h.0, w)) (node_timed now s) (sealed_timed h.0 h.1))
+    said_timed Asked (inl h) = none_said (SaidNow Asked) (m.activates fields tiles p meta image blocks good whole chunk_some capacity active images o u all_slots h.0 s now h.1)
+    said_timed Asked (inr h) = none_said (SaidNow Asked) (done_timed h)
+    said_timed Confirmed h = none_said (SaidNow Confirmed) (done_timed h)
+
+    chunked_timed : (p.mode == 2) ≡ false → (k n j rem : ℕ) → Chunked k n j rem s → Timed (ChunkedNow k n j rem)
+    chunked_timed no_pull k n j zero h = holds_timed (suc k) n (Some (last k)) h
+    chunked_timed no_pull k n j (suc rem) h = quiet_as (In k n j (suc rem) h.0) (ChunkedNow k n j (suc rem)) (λ z w. (h.0, w)) (node_timed now s) (in_timed no_pull k n j (suc rem) h.0 h.1)
+
+    pub spot_timed : (spot : Spot) → NodeOf spot s → TimedSo (NodeNow spot) (Replied spot)
+    spot_timed First h = none_said (NodeNow First) (idle_timed h)
+    spot_timed (Asking ask chunks) h = none_said (NodeNow (Asking ask chunks)) (ask_timed ask h)
     spot_timed (After said chunks) h = said_timed said h
-    spot_timed (Between step is k n sum chunks without) h =
-        quiet_as (HoldsNow k n h.0) (NodeNow (Between step is k n sum chunks without)) (λ z w. (h.0, w)) (node_timed now s) (holds_timed k n h.0 h.1)
-    spot_timed (Chunking k n c j rem sum total all) h = chunked_timed k n j rem h
-    spot_timed (Over chunks) h = done_timed h
+    spot_timed (Between step is k n sum chunks without heard silent) h =
+        none_said (NodeNow (Between step is k n sum chunks without heard silent))
+        (quiet_as (HoldsNow k n h.0) (NodeNow (Between step is k n sum chunks without heard silent)) (λ z w. (h.0, w)) (node_timed now s) (holds_timed k n h.0 h.1))
+    spot_timed (Chunking k n c j rem sum total all pushes) h = none_said (NodeNow (Chunking k n c j rem sum total all pushes)) (chunked_timed (pushes.no_pull) k n j rem h)
+    spot_timed (Pulling k n c sum total pulls chunks some wanted heard silent) h = reported k n c pulls h
+    spot_timed (Over chunks) h = none_said (NodeNow (Over chunks)) (done_timed h)

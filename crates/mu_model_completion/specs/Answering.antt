@@ -1,5 +1,5 @@
 -- A client with one receiver that answers as the model's node does, turn by turn. What others say, and when, is any.
-use Rattle.std.specs.Prelude.{ℕ, ◌≡◌, ◌<◌, ◌==◌, ◌&&◌, ◌||◌, not, Bool, true, false, List, [], ◌∷◌, map, nat_eq}
+use Rattle.std.specs.Prelude.{ℕ, ◌≡◌, ◌⊎◌, ◌<◌, ◌==◌, ◌&&◌, ◌||◌, not, Bool, true, false, List, [], ◌∷◌, map, nat_eq}
 use Rattle.std.specs.List.{AllByRecursion, list_any}
 use Rattle.mu_model_node.specs.declared.NodeConfig.{NodeConfig}
 use Rattle.mu_model_node.specs.NodeMessages.{Request, Reply}
@@ -103,11 +103,12 @@ IsUnicast a = a < 0x8000
 abbrev pub with_index : ℕ → ℕ × ℕ
 with_index a = (a, 0)
 
--- in push, a receiver whose node takes the update, and answers all that reaches it in time, is never dropped: whoever else the client has, whatever they say, and whatever they lose
+-- a receiver whose node takes the update, and answers all that reaches it in time, is never dropped: whoever else the client has, whatever
+-- they say, and whatever they lose
 abbrev pub AnsweringStays : Type 0
 AnsweringStays =
     (plan : Plan) (image : List ℕ) (to : List ℕ) (config : NodeConfig) (node : NodeState) (ts : List Turn)
-    → IsUpdate plan image → plan.sending.mode ≡ 1 → CanTake plan config node
+    → IsUpdate plan image → (plan.sending.mode ≡ 1) ⊎ (plan.sending.mode ≡ 2) → CanTake plan config node
     → list_any (nat_eq config.address) to ≡ true → NoneTwice to → AllByRecursion IsUnicast to
     → AllByRecursion (FromOthers config.address) ts
     → InTime config image (record { client = start plan (map with_index to); node = node }) ts

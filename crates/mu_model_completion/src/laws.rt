@@ -5,8 +5,9 @@ ghost use Rattle.mu_model_completion.specs.Completion.{PushCompletes, PushTakesA
 ghost use Rattle.mu_model_completion.specs.WorkedAnswering.{BesideTheSilent};
 ghost use Rattle.mu_model_completion.specs.Worked.{OneNodeCompletes, OneNodePulls, EqualVersionEnds, FirstBlock, ThreeComplete};
 
-use mu_model_client_laws::laws::{fields_are_read, plans_stay};
+use mu_model_client_laws::laws::{fields_are_read, named_sets, plans_stay};
 use mu_model_image::laws::{blocks, chunks, images, metadata};
+use mu_model_wire::reports::reports;
 
 /// In push all receivers have the image after so many turns, and from then on, where nothing is lost: seven turns for each sixteen
 /// receivers, and for each block two for each sixteen receivers and one for each sixteen chunks. Where each block is full and up to
@@ -48,13 +49,15 @@ pub fn three_over_64_kib()
     chunks();
 }
 
-/// In push, a receiver whose node takes the update and answers all that reaches it in time is never dropped, whoever else the
-/// client has, whatever they say, and whatever they lose.
+/// A receiver whose node takes the update and answers all that reaches it in time is never dropped, in push and in pull, whoever
+/// else the client has, whatever they say, and whatever they lose.
 pub fn answering_stays()
     ensures { AnsweringStays }
 {
     plans_stay();
     fields_are_read();
+    named_sets();
+    reports();
     metadata();
     images();
     blocks();
