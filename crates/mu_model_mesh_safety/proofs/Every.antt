@@ -16,7 +16,7 @@ use Rattle.mu_model_mesh.specs.Mesh.{Mesh, new_mesh}
 use Rattle.mu_model_mesh.specs.MeshOutcomes.{mesh_begun}
 use Rattle.mu_model_mesh_safety.specs.Laws.{Always, MayCome, AfterCuts, EveryWorldIsSafe, EveryCutIsSafe, EveryListIsTrue, ListsStayTrue, EveryFactHolds}
 use Rattle.mu_model_mesh_safety.specs.Safe.{IsSafe, ListsAreTrue}
-use Rattle.mu_model_mesh_safety.specs.Facts.{FactsHold}
+use Rattle.mu_model_mesh_safety.specs.Facts.{TransfersAreKept, FactsHold}
 use Rattle.mu_model_mesh_safety.proofs.Deeds.{Deed, AreIn}
 use Rattle.mu_model_mesh_safety.proofs.Doing.{always_keeps}
 use Rattle.mu_model_mesh_safety.proofs.DoingEvents.{begins, deed_of_node_cut, deed_of_dist_cut}
@@ -24,6 +24,7 @@ use Rattle.mu_model_mesh_safety.proofs.Facts.{statuses_are_reached, versions_ris
 use Rattle.mu_model_mesh_safety.proofs.Keeping.{kept_new, deed_keeps}
 use Rattle.mu_model_mesh_safety.proofs.Kept.{Kept}
 use Rattle.mu_model_mesh_safety.proofs.ShownAir.{starts_are_own, starts_are_of_one_offer, counters_are_ahead}
+use Rattle.mu_model_mesh_safety.proofs.Transfers.{TransferLaws, transfers_new, transfers_keep}
 use Rattle.mu_model_mesh_safety.proofs.ShownLists.{lists_new, lists_keep}
 use Rattle.mu_model_mesh_safety.proofs.ShownLaws.{MemberLaws}
 use Rattle.mu_model_mesh_safety.proofs.ShownSafe.{safe}
@@ -111,8 +112,19 @@ module _ (laws : LineLaws) where
 
     -- ---- facts
 
-    facts : FactLaws → (m : Mesh) → Kept m → FactsHold m
-    facts laws m kept = record {
+    abbrev WithTransfers : Mesh → Type 0
+    WithTransfers m = Kept m × TransfersAreKept m
+
+    transfers : FactLaws → TransferLaws
+    transfers facts = record { packets = laws.packets; from = laws.from; stay = members.stay; order = members.order }
+
+    transfers_kept : FactLaws → (m next : Mesh) → WithTransfers m → Deed m next → WithTransfers next
+    transfers_kept facts m next (kept, own) deed =
+        let after = keeps m next kept deed in
+        (after, transfers_keep (transfers facts) m next deed kept after own)
+
+    facts : FactLaws → (m : Mesh) → WithTransfers m → FactsHold m
+    facts laws m (kept, own) = record {
       statuses = statuses_are_reached laws.sent m kept;
       own = starts_are_own members m kept;
       offers = starts_are_of_one_offer members m kept;
@@ -121,7 +133,8 @@ module _ (laws : LineLaws) where
       images = shown_images_were_had laws.sent m kept;
       logged = jobs_are_logged laws.jobs m kept;
       go_on = verified_jobs_go_on laws.on m;
+      transfers = own;
     }
 
     pub every_fact : FactLaws → EveryFactHolds
-    every_fact laws lines text m mid run within = facts laws mid (always_kept lines text m mid run within)
+    every_fact facts_laws lines text m mid run within = facts facts_laws mid (always WithTransfers (transfers_kept facts_laws) (kept_new, transfers_new) lines text m mid run within)

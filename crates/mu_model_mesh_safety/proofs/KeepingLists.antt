@@ -141,6 +141,15 @@ changed_places entries a old x at = record {
   none = λ b is. changed_none entries a b x is;
 }
 
+-- a member that was there is the new one
+pub set_there : {X : Type 0} (entries : List (ℕ × X)) (a : ℕ) (old x : X) → lookup (nat_eq a) entries ≡ Some old → lookup (nat_eq a) (set_value (nat_eq a) entries x) ≡ Some x
+set_there [] a old x at = absurd cc
+set_there ((key, value) ∷ entries) a old x at =
+    elim (nat_eq a key) as (λ t. nat_eq a key ≡ t → cond t (Some value) (lookup (nat_eq a) entries) ≡ Some old → lookup (nat_eq a) (cond t ((key, x) ∷ entries) ((key, value) ∷ set_value (nat_eq a) entries x)) ≡ Some x) [
+      | true ↦ λ is e. rw is refl
+      | false ↦ λ is e. rw is (set_there entries a old x e)
+    ] refl at
+
 pub stays_none : {X : Type 0} (old new : List (ℕ × X)) (a : ℕ) → SamePlaces old new → lookup (nat_eq a) old ≡ None → lookup (nat_eq a) new ≡ None
 stays_none old new a p none =
     none_from _ (λ x is.

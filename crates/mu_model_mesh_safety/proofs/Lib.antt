@@ -26,3 +26,4 @@ pub mod ShownSends
 pub mod ShownStarts
 pub mod ShownUpdaters
 pub mod Every
+pub mod Transfers

@@ -1,5 +1,5 @@
 -- What is on the air and in the logs of a world is so: the facts that safety rests on, each by its name.
-use Rattle.std.specs.Prelude.{ℕ, ◌≡◌, ◌≤◌, ◌+◌, true, List, [], ◌∷◌, Some}
+use Rattle.std.specs.Prelude.{ℕ, ◌≡◌, ◌≤◌, ◌+◌, ◌||◌, Bool, true, false, is_some, List, [], ◌∷◌, Option, Some, None}
 use Rattle.std.specs.List.{AllByRecursion}
 use Rattle.mu_model_image.specs.Meta.{Image, firmware_id, own_company}
 use Rattle.mu_model_wire.specs.Packet.{Packet}
@@ -12,10 +12,11 @@ use Rattle.mu_model_node.specs.UpdateMessages.{ShownJob, UpdateStart, StartUpdat
 use Rattle.mu_model_client.specs.Answers.{FromUpdate, answer_at}
 use Rattle.mu_model_distributor.specs.DistEvents.{dist_passed}
 use Rattle.mu_model_distributor.specs.DistState.{DistDurable, transfer_id}
+use Rattle.mu_model_distributor_laws.specs.RowMoves.{Each}
 use Rattle.mu_model_fates.specs.Laws.{IsLogged, VersionsOf, NextOf}
 use Rattle.mu_model_world.specs.Judged.{owner_of}
 use Rattle.mu_model_world.specs.World.{Member, config_of, log_at}
-use Rattle.mu_model_mesh.specs.Mesh.{DistributorMember, Mesh, is_member, node_at, distributor_at}
+use Rattle.mu_model_mesh.specs.Mesh.{DistributorMember, Mesh, is_member, node_at, updater_at, distributor_at}
 
 -- a packet of the bag, which came from a node of the script
 abbrev pub OfNode : Mesh → (Member → Packet → Type 0) → Type 0
@@ -83,6 +84,19 @@ VerifiedJobsGoOn m =
     (address : ℕ) (n : Member) (j : Job) (h : Happening) → node_at m address ≡ Some n → n.state.durable.job ≡ Some j
     → NextOf j j.stored (logged n.state (happened (config_of address n) n.state h)) (happened (config_of address n) n.state h).durable.job
 
+-- ---- transfers are kept: with a packet the bag keeps a BLOB ID exactly where its sender is an updater or a distributor, and it is
+-- one of that sender's
+
+abbrev pub has_transfers : Mesh → (address : ℕ) → Bool
+has_transfers m address = is_some (updater_at m address) || is_some (distributor_at m address)
+
+abbrev pub IsTransferOf : Mesh → Packet → Option ℕ → Type 0
+IsTransferOf m p None = has_transfers m p.from ≡ false
+IsTransferOf m p (Some id) = (has_transfers m p.from ≡ true) × (owner_of id ≡ p.from)
+
+abbrev pub TransfersAreKept : Mesh → Type 0
+TransfersAreKept m = Each (IsTransferOf m) m.nodes.bag m.transfers
+
 -- ---- all of them
 
 pub record FactsHold (m : Mesh) : Type 0 where
@@ -94,3 +108,4 @@ pub record FactsHold (m : Mesh) : Type 0 where
   pub images : ShownImagesWereHad m
   pub logged : JobsAreLogged m
   pub go_on : VerifiedJobsGoOn m
+  pub transfers : TransfersAreKept m
