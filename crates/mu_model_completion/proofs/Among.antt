@@ -160,33 +160,33 @@ module _ (config : NodeConfig) where
   abbrev pub has_get : List Item → Bool
   has_get is = list_any is_get is
 
-  pub sends_append : (xs ys : List Item) → AllLeft xs → AllLeft ys → AllLeft (xs ++ ys)
-  sends_append [] ys h k = k
-  sends_append (x ∷ xs) ys h k = (h.0, sends_append xs ys h.1 k)
+  pub left_append : (xs ys : List Item) → AllLeft xs → AllLeft ys → AllLeft (xs ++ ys)
+  left_append [] ys h k = k
+  left_append (x ∷ xs) ys h k = (h.0, left_append xs ys h.1 k)
 
-  pub sends_left : (xs ys : List Item) → AllLeft (xs ++ ys) → AllLeft xs × AllLeft ys
-  sends_left [] ys h = (tt, h)
-  sends_left (x ∷ xs) ys h = let r = sends_left xs ys h.1 in ((h.0, r.0), r.1)
+  pub left_split : (xs ys : List Item) → AllLeft (xs ++ ys) → AllLeft xs × AllLeft ys
+  left_split [] ys h = (tt, h)
+  left_split (x ∷ xs) ys h = let r = left_split xs ys h.1 in ((h.0, r.0), r.1)
 
   one_first : (b : Bool) (x : Item) (xs : List Item) → IsLeft x → AllLeft xs → AllLeft (first_if b x xs)
   one_first true x xs h k = (h, k)
   one_first false x xs h k = k
 
-  pub mine_sends : (xs : List Item) → AllLeft xs → AllLeft (mine xs)
-  mine_sends [] h = tt
-  mine_sends (x ∷ xs) h = one_first (reaches (is_to x) config) x (mine xs) h.0 (mine_sends xs h.1)
+  pub mine_left : (xs : List Item) → AllLeft xs → AllLeft (mine xs)
+  mine_left [] h = tt
+  mine_left (x ∷ xs) h = one_first (reaches (is_to x) config) x (mine xs) h.0 (mine_left xs h.1)
 
   to_all : (b k : ℕ) (tos : List ℕ) → AllLeft (map (λ to. Sends to b k) tos)
   to_all b k [] = tt
   to_all b k (to ∷ tos) = (tt, to_all b k tos)
 
-  flat_sends : (f : ℕ → List Item) → ((k : ℕ) → AllLeft (f k)) → (ks : List ℕ) → AllLeft (flat_map f ks)
-  flat_sends f h [] = tt
-  flat_sends f h (k ∷ ks) = sends_append (f k) (flat_map f ks) (h k) (flat_sends f h ks)
+  flat_left : (f : ℕ → List Item) → ((k : ℕ) → AllLeft (f k)) → (ks : List ℕ) → AllLeft (flat_map f ks)
+  flat_left f h [] = tt
+  flat_left f h (k ∷ ks) = left_append (f k) (flat_map f ks) (h k) (flat_left f h ks)
 
-  pub chunks_are_sends : (p : Sending) (b : ℕ) (missing : Receiver → List Bool) (rs : List Receiver) → AllLeft (chunk_items p b missing rs)
-  chunks_are_sends p b missing rs =
-      flat_sends (λ k. map (λ to. Sends to b k) (l.destinations p (lacking missing rs k))) (λ k. to_all b k (l.destinations p (lacking missing rs k))) (below (chunk_total p b))
+  pub chunks_are_left : (p : Sending) (b : ℕ) (missing : Receiver → List Bool) (rs : List Receiver) → AllLeft (chunk_items p b missing rs)
+  chunks_are_left p b missing rs =
+      flat_left (λ k. map (λ to. Sends to b k) (l.destinations p (lacking missing rs k))) (λ k. to_all b k (l.destinations p (lacking missing rs k))) (below (chunk_total p b))
 
   -- without a group, a chunk that it misses
   own_elsewhere : (b k : ℕ) (xs : List Receiver) → AllByRecursion Elsewhere xs → mine (map (λ to. Sends to b k) (lacking missing_of xs k)) ≡ []

@@ -78,10 +78,6 @@ module _ (laws : KeepsPlan) (fields : FieldsAreRead) (tiles : Tiles) (p : Sendin
   some_active P f [] h le = absurd (omega (arith, le))
   some_active P f (x ∷ ps) h le = ap (λ b. b || list_any is_active (map receiver_in ps)) (f x h.0)
 
-  -- a row is active, and pending or not
-  abbrev RowIs : (ℕ → Pair → Type 0) → Bool → Type 0
-  RowIs D pending = (x : Pair) → Answered D x → (x.r.pending ≡ pending) × (is_active x.r ≡ true)
-
   pub row_is : (phase : ℕ) (bs chunks : List Bool) (pending : Bool) (x : Pair) → Row phase bs chunks pending x → (x.r.pending ≡ pending) × (is_active x.r ≡ true)
   row_is phase bs chunks pending x h = (ap (λ (r : Receiver). r.pending) h.r_is, ap is_active h.r_is)
 

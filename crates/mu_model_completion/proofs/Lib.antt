@@ -37,3 +37,4 @@ pub mod Exact
 pub mod Sharp
 pub mod Partly
 pub mod PullMoments
+pub mod Nobody

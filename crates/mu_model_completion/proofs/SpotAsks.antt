@@ -27,7 +27,7 @@ use Rattle.mu_model_completion.proofs.Pieces.{lacking_from, one_held, not_full}
 use Rattle.mu_model_completion.proofs.Blocks.{Tiles, blk}
 use Rattle.mu_model_completion.proofs.Receivers as r
 use Rattle.mu_model_completion.proofs.Receivers.{rcv}
-use Rattle.mu_model_completion.proofs.Among.{IsLeft, AllLeft, AllOf, of_left, sends_left}
+use Rattle.mu_model_completion.proofs.Among.{IsLeft, AllLeft, AllOf, of_left, left_split}
 use Rattle.mu_model_completion.proofs.Hears.{Both, asks_one, asks_all, tell, tell_if, tells}
 use Rattle.mu_model_completion.proofs.PullNodes as pn
 use Rattle.mu_model_completion.proofs.Partly.{missing_long, some_missing}
@@ -353,7 +353,7 @@ module _ (laws : KeepsPlan) (fields : FieldsAreRead) (tiles : Tiles) (p : Sendin
       → (before : Option LastBlock) × Holds k n before x → AllLeft config (xs ++ ys)
       → Stood to (At step) ys (asks_ (At step) now xs (record { r = row_of (Between step is k n sum chunks without heard silent); n = x }))
   between_stood to step is k n sum chunks without heard silent x now xs ys h all =
-      let both = sends_left config xs ys all in
+      let both = left_split config xs ys all in
       let q = passes_all (At step) now k n h.0 (row_of (Between step is k n sum chunks without heard silent)) refl xs (record { r = row_of (Between step is k n sum chunks without heard silent); n = x }) both.0 (record { row_is = refl; node = h.1 }) in
       record {
         spot = Between step is k n sum chunks without heard silent;

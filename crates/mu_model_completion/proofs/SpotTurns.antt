@@ -26,7 +26,7 @@ use Rattle.mu_model_completion.proofs.Blocks.{Tiles}
 use Rattle.mu_model_completion.proofs.Receivers.{rcv}
 use Rattle.mu_model_completion.proofs.Planned.{has_every}
 use Rattle.mu_model_completion.proofs.Stations.{begun_place}
-use Rattle.mu_model_completion.proofs.Among.{Here, here_mapped, passed_here, first_if, mine, mine_sends, AllLeft, AllOf, of_left, has_get, chunks_are_sends, own_here, mine_flat}
+use Rattle.mu_model_completion.proofs.Among.{Here, here_mapped, passed_here, first_if, mine, mine_left, AllLeft, AllOf, of_left, has_get, chunks_are_left, own_here, mine_flat}
 use Rattle.mu_model_completion.proofs.Hears.{client_in, Stands, tells}
 use Rattle.mu_model_completion.proofs.Going as g
 use Rattle.mu_model_completion.proofs.Going.{Sent, quiet_due, pull_quiet_due, pulling_due, goes_on_with, asks_for, asked_again, waiting_due, chunks_due, begins, begins_asking}
@@ -283,7 +283,7 @@ module _ (laws : KeepsPlan) (fields : FieldsAreRead) (tiles : Tiles) (p : Sendin
         moved (Between (Chunks b) tt k n sum chunks without false silent) _ _ node
         (subst (λ x. Sent_ (At (Chunks b)) x (mine config (first_list p (Update meta true) (map (d.begun (Chunks b)) rs) (Chunks b))) (d.goes_on (client_ place queue began moment rs) image (Go (Chunks b)))) begun
         (begins laws p meta image config place queue began moment rs row (Chunks b) here refl))
-        (mine_sends config _ (chunks_are_sends config p b missing_of (map (d.begun (Chunks b)) rs))) holds
+        (mine_left config _ (chunks_are_left config p b missing_of (map (d.begun (Chunks b)) rs))) holds
 
     other_get : (b : ℕ) → Moves (Go (Get b))
     other_get b = begins_other (Get b) tt out_of_chunks refl (λ xs. refl)

@@ -59,16 +59,6 @@ module _ (p : Sending) where
       (λ k low high. ap (λ z. map (λ to. Sends to b k) (if z then lacking missing_of (map receiver_in (x ∷ ps)) k else l.to_group p.group (lacking missing_of (map receiver_in (x ∷ ps)) k))) g
       ∙ ap (map (λ to. Sends to b k)) (to_group_once p.group k bs c x ps h.0 (omega (arith, high))))
 
-  alone_list : (p.group == 0) ≡ true → (a b c : ℕ) → chunk_total p b ≡ suc c → (bs : List Bool) (x : Pair) → Row 2 bs (every_number (suc c)) true x → x.config.address ≡ a
-      → chunk_items p b missing_of (x.r ∷ []) ≡ map (λ i. Sends a b i) (range_with_len 0 (suc c))
-  alone_list g a b c total bs x row place =
-      let f : ℕ → List Item = λ k. map (λ to. Sends to b k) (l.destinations p (lacking missing_of (x.r ∷ []) k)) in
-      ap (λ m. flat_map f (range_with_len 0 m)) total
-      ∙ each_one f (λ k. Sends a b k) (suc c) 0
-      (λ k low high. ap (λ z. map (λ to. Sends to b k) (if z then lacking missing_of (x.r ∷ []) k else l.to_group p.group (lacking missing_of (x.r ∷ []) k))) g
-      ∙ (ap (λ z. map (λ to. Sends to b k) (l.lacking_if x.r.row.address z ++ [])) (ap (l.lacks_chunk missing_of k) row.r_is ∙ has_every (suc c) k (omega (arith, high)))
-      ∙ ap (λ to. Sends to b k ∷ []) (ap (λ (r : Receiver). r.row.address) row.r_is ∙ place)))
-
 -- ---- the law
 
 module _ (laws : KeepsPlan) (fields : FieldsAreRead) (tiles : Tiles) (read : MetaIsReadBack) (tested : FitIsTested) (plan : Plan) (image : List ℕ) (to : List ℕ) (members : List Member)

@@ -25,7 +25,9 @@ one_pulls = record { ten = refl; nine = refl }
 pub beside_the_silent : BesideTheSilent
 unfolding sha256 digest_bytes hash_after compress rounds schedule first_words
 beside_the_silent = record {
-  in_time = (refl, (refl, (refl, (refl, (refl, (refl, (refl, (refl, (refl, (refl, (refl, (refl, (refl, (refl, tt))))))))))))));
-  succeeds = refl;
+  in_time_push = (refl, (refl, (refl, (refl, (refl, (refl, (refl, (refl, (refl, (refl, (refl, (refl, (refl, (refl, tt))))))))))))));
+  push = refl;
+  in_time_pull = (refl, (refl, (refl, (refl, (refl, (refl, (refl, (refl, (refl, (refl, (refl, (refl, (refl, (refl, tt))))))))))))));
+  pull = refl;
   too_late = refl;
 }

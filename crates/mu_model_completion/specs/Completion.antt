@@ -175,6 +175,20 @@ PullCompletes =
     → plan.sending.mode ≡ 2 → (n : ℕ) → pull_turns plan.sending ≤ n
     → Completed from.config.address (to ∷ []) (settle n members)
 
+-- nobody is dropped, after however many turns
+abbrev pub NoDrops : (u : ℕ) (to : List ℕ) → List Member → Type 0
+NoDrops u to members = drops_at u members ≡ Some (map (λ a. None) to)
+
+abbrev pub PushDropsNobody : Type 0
+PushDropsNobody =
+    (plan : Plan) (image : List ℕ) (to : List ℕ) (members : List Member) (from : CanBegin plan image to members)
+    → plan.sending.mode ≡ 1 → (n : ℕ) → NoDrops from.config.address to (settle n members)
+
+abbrev pub PullDropsNobody : Type 0
+PullDropsNobody =
+    (plan : Plan) (image : List ℕ) (to : ℕ) (members : List Member) (from : CanBegin plan image (to ∷ []) members)
+    → plan.sending.mode ≡ 2 → (n : ℕ) → NoDrops from.config.address (to ∷ []) (settle n members)
+
 -- three receivers and 64 KiB in 16 blocks of 21 chunks, to a group: 71 turns
 abbrev pub plan_64 : (version : ℕ) → List ℕ → Plan
 plan_64 version image = record {

@@ -16,8 +16,8 @@ use Rattle.mu_model_completion.specs.Answering.{Answering, Turn, turns, InTime, 
 abbrev pub two : NodeConfig
 two = record { address = 2; group = 0 }
 
-abbrev pub begun : Answering
-begun = record { client = start plan_abc (map with_index (2 ∷ 3 ∷ [])); node = restarted (new_node 1 image_a) }
+abbrev pub begun : (mode : ℕ) → Answering
+begun mode = record { client = start (record plan_abc { sending = record sending_abc { mode = mode } }) (map with_index (2 ∷ 3 ∷ [])); node = restarted (new_node 1 image_a) }
 
 abbrev pub at : ℕ → Turn
 at now = record { now = now; others = [] }
@@ -30,10 +30,10 @@ pub record Seen : Type 0 where
   pub rows : List (List ℕ)
   pub drops : List (Option Dropped)
 
-abbrev pub seen_after : List Turn → Seen
-seen_after ts = record {
-  rows = map shown (rows (turns two image_abc.octets begun ts).client);
-  drops = map (λ (r : Receiver). cause_of r.standing) (turns two image_abc.octets begun ts).client.receivers;
+abbrev pub seen_after : (mode : ℕ) → List Turn → Seen
+seen_after mode ts = record {
+  rows = map shown (rows (turns two image_abc.octets (begun mode) ts).client);
+  drops = map (λ (r : Receiver). cause_of r.standing) (turns two image_abc.octets (begun mode) ts).client.receivers;
 }
 
 -- it never answers: it is dropped after five rounds of 4,100 ms, and the update of the other goes on from there
@@ -51,9 +51,15 @@ falls_silent =
     ∷ says 400 (FromBlob (TransferIs 0 2 (Some sending_abc.id) (Some (record { mode = 1; size = 3; log = 12; mtu = 380 })) (1 ∷ [])))
     ∷ at 500 ∷ at 4600 ∷ at 8700 ∷ at 12800 ∷ at 16900 ∷ at 21000 ∷ at 21100 ∷ []
 
+-- what is seen once the receiver that answers has succeeded
+abbrev pub one_succeeds : Seen
+one_succeeds = record { rows = (8 ∷ 0 ∷ 0 ∷ 100 ∷ []) ∷ (10 ∷ 0 ∷ 0 ∷ 0 ∷ []) ∷ []; drops = None ∷ Some (Silent 1) ∷ [] }
+
 pub record BesideTheSilent : Type 0 where
-  -- the receiver that answers in time succeeds
-  pub in_time : InTime two image_abc.octets begun never_answers
-  pub succeeds : seen_after never_answers ≡ record { rows = (8 ∷ 0 ∷ 0 ∷ 100 ∷ []) ∷ (10 ∷ 0 ∷ 0 ∷ 0 ∷ []) ∷ []; drops = None ∷ Some (Silent 1) ∷ [] }
+  -- the receiver that answers in time succeeds, in push and in pull
+  pub in_time_push : InTime two image_abc.octets (begun 1) never_answers
+  pub push : seen_after 1 never_answers ≡ one_succeeds
+  pub in_time_pull : InTime two image_abc.octets (begun 2) never_answers
+  pub pull : seen_after 2 never_answers ≡ one_succeeds
   -- the receiver that isn't asked in time answers with Wrong Phase, and is dropped by that
-  pub too_late : seen_after falls_silent ≡ record { rows = (2 ∷ 0 ∷ 4 ∷ 0 ∷ []) ∷ (2 ∷ 0 ∷ 0 ∷ 0 ∷ []) ∷ []; drops = Some (Status 7 4) ∷ Some (Silent 5) ∷ [] }
+  pub too_late : seen_after 1 falls_silent ≡ record { rows = (2 ∷ 0 ∷ 4 ∷ 0 ∷ []) ∷ (2 ∷ 0 ∷ 0 ∷ 0 ∷ []) ∷ []; drops = Some (Status 7 4) ∷ Some (Silent 5) ∷ [] }

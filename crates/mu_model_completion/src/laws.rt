@@ -1,11 +1,13 @@
 //! Laws on whole updates in which nothing is lost: functions that do nothing, whose contracts are proved.
 
 ghost use Rattle.mu_model_completion.specs.Answering.{AnsweringStays};
-ghost use Rattle.mu_model_completion.specs.Completion.{PushCompletes, PushTakesAll, PullCompletes, ThreeOver64KiB};
+ghost use Rattle.mu_model_completion.specs.Completion.{PushCompletes, PushTakesAll, PullCompletes, PushDropsNobody, PullDropsNobody, ThreeOver64KiB};
 ghost use Rattle.mu_model_completion.specs.WorkedAnswering.{BesideTheSilent};
 ghost use Rattle.mu_model_completion.specs.Worked.{OneNodeCompletes, OneNodePulls, EqualVersionEnds, FirstBlock, ThreeComplete};
 
-use mu_model_client_laws::laws::{fields_are_read, named_sets, plans_stay};
+use mu_model_client_laws::laws::{
+    clients_are_sound, drops_stay, fields_are_read, named_sets, plans_stay,
+};
 use mu_model_image::laws::{blocks, chunks, images, metadata};
 use mu_model_wire::reports::reports;
 
@@ -47,6 +49,17 @@ pub fn three_over_64_kib()
     images();
     blocks();
     chunks();
+}
+
+/// Where nothing is lost nobody is ever dropped: in push, and in pull with one receiver.
+pub fn nobody_is_dropped()
+    ensures push { PushDropsNobody }
+    ensures pull { PullDropsNobody }
+{
+    push_completes();
+    pull_completes();
+    clients_are_sound();
+    drops_stay();
 }
 
 /// A receiver whose node takes the update and answers all that reaches it in time is never dropped, in push and in pull, whoever
