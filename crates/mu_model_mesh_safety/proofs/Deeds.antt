@@ -18,7 +18,6 @@ use Rattle.mu_model_distributor.specs.DistState.{transfer_id}
 use Rattle.mu_model_distributor.specs.Runs.{happened as dist_happened}
 use Rattle.mu_model_fates.specs.Laws.{come_by}
 use Rattle.mu_model_offers.specs.Packets.{packets_by}
-use Rattle.mu_model_packets.specs.Laws.{IsSending}
 use Rattle.mu_model_script.specs.Ranges.{IsUnicast}
 use Rattle.mu_model_told.specs.Reached.{sent_by}
 use Rattle.mu_model_updater.specs.Laws.{IsInRange}
@@ -176,7 +175,6 @@ pub record NewUpdater (m next : Mesh) : Type 0 where
   pub range : IsInRange plan to
   -- the first image of each receiver is updated
   pub first : AllByRecursion (λ (receiver : ℕ × ℕ). receiver.1 ≡ 0) to
-  pub sends : IsSending plan image
   pub added : next.updaters ≡ m.updaters ++ (address, record { moment = moment; updater = new_updater plan image to }) ∷ []
   pub nodes : SameNodes m next
   pub air : SameAir m next

@@ -326,17 +326,6 @@ module _ (fit : ImagesFit) (metadata : ImagesHaveMetadata) (made : MadeImageHasI
             content_most = few;
           });
           first = first_images line.receivers;
-          sends = record {
-            mode_least = range.mode_in.0;
-            mode_most = range.mode_in.1;
-            log_least = range.log_in.0;
-            log_most = range.log_in.1;
-            chunk_least = range.chunk_in.0;
-            chunk_most = range.chunk_in.1;
-            size_least = some;
-            size_most = few;
-            size_is = refl;
-          };
           added = refl;
           nodes = record { members = refl; log = refl };
           air = record { bag = refl; transfers = refl };

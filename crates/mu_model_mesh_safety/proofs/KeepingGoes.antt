@@ -126,7 +126,7 @@ module _ (send : NodesSendFit) where
         updaters_stay = same_places m.updaters;
         distributors_stay = same_places m.distributors;
       })
-      (own_packets m d.address sent (k.apart.nodes d.address d.old d.at).0 from (node_sends_fit send m.nodes.bag d.address d.old d.h fits run.0)) k)
+      (own_packets m d.address sent (k.apart.nodes d.address d.old d.at).0 from (node_sends_fit send m.nodes.bag d.address d.old d.h)) k)
     where
       sent : List Packet
       sent = sent_by (config_of d.address d.old) d.old.state d.h

@@ -143,7 +143,7 @@ keeps_new_updater m next d k =
     empty = k.early d.more.early
 
     begins : UpdaterRun m.nodes.bag d.address made
-    begins = rw empty (updater_begins d.address d.id d.plan d.image d.to d.moment d.from d.blob_id d.small d.range d.first d.sends)
+    begins = rw empty (updater_begins d.address d.id d.plan d.image d.to d.moment d.from d.blob_id d.small d.range d.first)
 
 module _ (new_unused : NewIsUnused) where
   pub keeps_new_distributor : (m next : Mesh) → NewDistributor m next → Kept m → Kept next

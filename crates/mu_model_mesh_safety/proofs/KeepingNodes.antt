@@ -1,5 +1,5 @@
 -- Each node goes on with its run.
-use Rattle.std.proofs.Common.{◌≡◌, ◌⊎◌, ◌≤◌, ℕ, List, [], ◌∷◌, ◌++◌, Option, Some, None, true, false, cond, refl, sym, ap, ◌∙◌, append_assoc, append-nil, map}
+use Rattle.std.proofs.Common.{◌≡◌, ◌⊎◌, ◌≤◌, ℕ, List, [], ◌∷◌, ◌++◌, Option, Some, None, true, false, cond, refl, sym, ap, subst, ◌∙◌, append_assoc, append-nil, map}
 use Rattle.std.specs.List.{AllByRecursion}
 use Rattle.mu_model_image.specs.Meta.{Image, IsMeta}
 use Rattle.mu_model_wire.specs.Packet.{Packet}
@@ -166,11 +166,7 @@ node_begins address group made no_address sound jobless metas = (
 
 -- ---- what it sends is in the ranges of the grammar
 
-pub node_sends_fit : NodesSendFit → (bag : List Packet) (address : ℕ) (n : Member) (h : Happening) → HappeningFits h → NodeRun bag address n → AllByRecursion PacketFits (sent_by (config_of address n) n.state h)
-node_sends_fit send bag address n h fits r =
-    let config = config_of address n in
-    let start = restarted r.made in
-    let numbers : HasNumbers r.made.job = rw r.jobless tt in
-    let all = send config r.made (r.hs ++ h ∷ []) r.sound numbers (all_append HappeningFits r.hs (h ∷ []) r.fits (fits, tt)) in
-    let last = all_right IsAnswer (sent_in config start r.hs) (sent_by config (state_after config start r.hs) h) (rw (sent_more config start r.hs h) at all) in
-    weaker IsAnswer PacketFits _ (λ p is. is.fits) (rw (← r.state) at last)
+pub node_sends_fit : NodesSendFit → (bag : List Packet) (address : ℕ) (n : Member) (h : Happening) → AllByRecursion PacketFits (sent_by (config_of address n) n.state h)
+node_sends_fit send bag address n h =
+    let sent : List Packet = sent_by (config_of address n) n.state h in
+    weaker IsAnswer PacketFits sent (λ p is. is.fits) (subst (λ (all : List Packet). AllByRecursion IsAnswer all) (append-nil sent) (send (config_of address n) n.state (h ∷ [])))

@@ -5,7 +5,7 @@ use Rattle.mu_model_image.specs.Meta.{Image}
 use Rattle.mu_model_wire.specs.Packet.{Packet}
 use Rattle.mu_model_node.specs.Events.{NodeEvent}
 use Rattle.mu_model_client.specs.declared.Plan.{Plan}
-use Rattle.mu_model_packets.specs.Laws.{PacketFits, IsSending, UpdatersSendFit}
+use Rattle.mu_model_packets.specs.Laws.{PacketFits, UpdatersSendFit}
 use Rattle.mu_model_updater.specs.Laws.{IsInRange, SendsFromItsAddress}
 use Rattle.mu_model_updater.specs.Updater.{Updater, new_updater, updater_step, updater_after, sent_in, come_by, come_in}
 use Rattle.mu_model_mesh.specs.Mesh.{UpdaterMember}
@@ -44,7 +44,6 @@ updater_wider bag more address other u apart from r = record {
   small = r.small;
   range = r.range;
   first = r.first;
-  sends = r.sends;
   state = r.state;
   come = in_wider bag more _ r.come;
   sent = sent_other bag more _ address other apart from r.sent;
@@ -74,15 +73,14 @@ updater_on bag address old new event now next come r =
       small = r.small;
       range = r.range;
       first = r.first;
-      sends = r.sends;
       state = next ∙ (ap (λ u. (updater_step u event now).next) r.state ∙ sym (after_more start r.run (event, now)));
       come = in_wider bag _ _ (rw (come_more r.run (event, now)) (all_append (λ (p : Packet). Contains bag p) (come_in r.run) (come_by event) r.come come));
       sent = rw (sent_on bag address old event now r) (sent_own bag (updater_step old.updater event now).sent (sent_in start r.run) address r.sent);
     }
 
 pub updater_begins : (address id : ℕ) (plan : Plan) (image : Image) (to : List (ℕ × ℕ)) (moment : ℕ) → plan.sending.from ≡ address → plan.sending.id ≡ address * 2 ^ 48 + id → id < 2 ^ 48
-    → IsInRange plan to → AllByRecursion (λ (receiver : ℕ × ℕ). receiver.1 ≡ 0) to → IsSending plan image → UpdaterRun [] address (record { moment = moment; updater = new_updater plan image to })
-updater_begins address id plan image to moment from blob_id small range first sends = record {
+    → IsInRange plan to → AllByRecursion (λ (receiver : ℕ × ℕ). receiver.1 ≡ 0) to → UpdaterRun [] address (record { moment = moment; updater = new_updater plan image to })
+updater_begins address id plan image to moment from blob_id small range first = record {
   id = id;
   plan = plan;
   image = image;
@@ -93,7 +91,6 @@ updater_begins address id plan image to moment from blob_id small range first se
   small = small;
   range = range;
   first = first;
-  sends = sends;
   state = refl;
   come = tt;
   sent = tt;
@@ -108,5 +105,5 @@ updater_sends_from send bag address u event now r =
 
 pub updater_sends_fit : UpdatersSendFit → (bag : List Packet) (address : ℕ) (u : UpdaterMember) (event : NodeEvent) (now : ℕ) → UpdaterRun bag address u → AllByRecursion PacketFits (updater_step u.updater event now).sent
 updater_sends_fit send bag address u event now r =
-    let all = send r.plan r.image r.to (r.run ++ (event, now) ∷ []) r.range r.sends in
+    let all = send r.plan r.image r.to (r.run ++ (event, now) ∷ []) r.range.meta in
     all_right PacketFits (sent_in (new_updater r.plan r.image r.to) r.run) _ (rw (sent_on bag address u event now r) at all)

@@ -19,7 +19,7 @@ use Rattle.mu_model_distributor_laws.specs.Starts.{IsUnused}
 use Rattle.mu_model_fates.specs.Laws.{come_in}
 use Rattle.mu_model_offers.specs.Laws.{Run, IsRun, begin_of}
 use Rattle.mu_model_offers.specs.Packets.{packets_of}
-use Rattle.mu_model_packets.specs.Laws.{PacketFits, IsSending}
+use Rattle.mu_model_packets.specs.Laws.{PacketFits}
 use Rattle.mu_model_script.specs.Ranges.{IsUnicast}
 use Rattle.mu_model_told.specs.Reached.{HappeningFits, sent_in}
 use Rattle.mu_model_updater.specs.Laws.{IsInRange}
@@ -65,7 +65,6 @@ pub record UpdaterRun (bag : List Packet) (address : ℕ) (u : UpdaterMember) : 
   pub range : IsInRange plan to
   -- the first image of each receiver is updated
   pub first : AllByRecursion (λ (receiver : ℕ × ℕ). receiver.1 ≡ 0) to
-  pub sends : IsSending plan image
   pub state : u.updater ≡ updater_after (new_updater plan image to) run
   pub come : AreIn bag (updater_come_in run)
   pub sent : SentBy bag address (updater_sent_in (new_updater plan image to) run)

@@ -38,7 +38,7 @@ module _ (fit : NodesSendFit) (read : ReadStartsAreOffered) (say : PacketsSaySta
   answer_of bag a n r p has from =
       let all : List Packet = sent_in (config_of a n) (restarted r.made) r.hs in
       let sent : Contains all p = of_all (λ (q : Packet). q.from ≡ a → Contains all q) bag p r.sent has from in
-      of_all IsAnswer all p (fit (config_of a n) r.made r.hs r.sound (has_no_job r) r.fits) sent
+      of_all IsAnswer all p (fit (config_of a n) (restarted r.made) r.hs) sent
 
   offer_of : (bag : List Packet) (a : ℕ) (v : UpdaterMember) (r : UpdaterRun bag a v) (p : Packet) (u : UpdateStart) → Contains bag p → p.from ≡ a → Starts p u → IsOffered r.plan r.to p.to u
   offer_of bag a v r p u has from s =

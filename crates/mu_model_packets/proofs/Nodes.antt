@@ -87,4 +87,4 @@ run_answers config s [] = tt
 run_answers config s (h ∷ hs) = joined IsAnswer (sent_by config s h) (sent_in config (happened config s h) hs) (happening_answers config s h) (run_answers config (happened config s h) hs)
 
 pub nodes_send_fit : NodesSendFit
-nodes_send_fit config d hs sound numbers fits = run_answers config (restarted d) hs
+nodes_send_fit config s hs = run_answers config s hs

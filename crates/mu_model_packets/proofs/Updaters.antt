@@ -69,5 +69,5 @@ run_fits fit keeps plan to u (e ∷ run) meta h =
     (run_fits fit keeps plan to (updater_step u e.0 e.1).next run meta others)
 
 pub updaters_send_fit : OctetsSayFit → RequestsKeepTheirOpcodes → StartsAreOffered → UpdatersSendFit
-updaters_send_fit fit keeps offered plan image to run range sending =
-    run_fits fit keeps plan to (new_updater plan image to) run range.meta (offered plan image to run)
+updaters_send_fit fit keeps offered plan image to run meta =
+    run_fits fit keeps plan to (new_updater plan image to) run meta (offered plan image to run)

@@ -1,25 +1,23 @@
 -- What members of a script send is in the ranges that every member expects, so that the laws of each hold with the packets of the others.
 use Rattle.std.specs.Prelude.{ℕ, ◌≡◌, ◌≤◌, List, length, None, Some}
 use Rattle.std.specs.List.{AllByRecursion}
-use Rattle.mu_model_image.specs.Meta.{Image}
+use Rattle.mu_model_image.specs.Meta.{Image, IsMeta}
 use Rattle.mu_model_wire.specs.Laws.{AreOctets}
 use Rattle.mu_model_wire.specs.Packet.{Packet}
 use Rattle.mu_model_node.specs.declared.NodeConfig.{NodeConfig}
 use Rattle.mu_model_node.specs.Events.{NodeEvent, PacketComes}
 use Rattle.mu_model_node.specs.Laws.{EventFits as NodeEventFits}
 use Rattle.mu_model_node.specs.NodeMessages.{OfUpdate, request_at}
-use Rattle.mu_model_node.specs.NodeState.{NodeDurable, restarted}
+use Rattle.mu_model_node.specs.NodeState.{NodeState}
 use Rattle.mu_model_node.specs.Safe.{Happening}
-use Rattle.mu_model_node.specs.Sound.{IsNodeDurable}
 use Rattle.mu_model_node.specs.UpdateMessages.{UpdateStart, StartUpdate}
 use Rattle.mu_model_client.specs.declared.Plan.{Plan}
 use Rattle.mu_model_distributor_laws.specs.Laws.{EventFits as DistributorEventFits}
 use Rattle.mu_model_distributor_laws.specs.Lists.{list_at}
 use Rattle.mu_model_offers.specs.Laws.{Run, IsRun}
 use Rattle.mu_model_offers.specs.Packets.{packets_of}
-use Rattle.mu_model_told.specs.Laws.{AreNumbers, HasNumbers}
-use Rattle.mu_model_told.specs.Reached.{HappeningFits, sent_in}
-use Rattle.mu_model_updater.specs.Laws.{IsInRange}
+use Rattle.mu_model_told.specs.Laws.{AreNumbers}
+use Rattle.mu_model_told.specs.Reached.{sent_in}
 use Rattle.mu_model_updater.specs.Updater.{new_updater, sent_in as updater_sent_in}
 
 -- what a packet says to a node, and to a distributor, is in the ranges of the grammar
@@ -43,29 +41,15 @@ pub record IsAnswer (p : Packet) : Type 0 where
   pub fits : PacketFits p
   pub offers_nothing : OffersNothing p
 
--- each packet of a node, from its beginning on
+-- each packet of a node, from whatever state on
 abbrev pub NodesSendFit : Type 0
-NodesSendFit =
-    (config : NodeConfig) (d : NodeDurable) (hs : List Happening) → IsNodeDurable d → HasNumbers d.job → AllByRecursion HappeningFits hs
-    → AllByRecursion IsAnswer (sent_in config (restarted d) hs)
+NodesSendFit = (config : NodeConfig) (s : NodeState) (hs : List Happening) → AllByRecursion IsAnswer (sent_in config s hs)
 
 -- ---- updaters
 
--- the ranges of a script's line, and of the image that is sent
-pub record IsSending (plan : Plan) (image : Image) : Type 0 where
-  pub mode_least : 1 ≤ plan.sending.mode
-  pub mode_most : plan.sending.mode ≤ 2
-  pub log_least : 12 ≤ plan.sending.log
-  pub log_most : plan.sending.log ≤ 14
-  pub chunk_least : 8 ≤ plan.sending.chunk
-  pub chunk_most : plan.sending.chunk ≤ 376
-  pub size_least : 1 ≤ plan.sending.size
-  pub size_most : plan.sending.size ≤ 1048576
-  pub size_is : plan.sending.size ≡ length image.octets
-
 abbrev pub UpdatersSendFit : Type 0
 UpdatersSendFit =
-    (plan : Plan) (image : Image) (to : List (ℕ × ℕ)) (run : List (NodeEvent × ℕ)) → IsInRange plan to → IsSending plan image
+    (plan : Plan) (image : Image) (to : List (ℕ × ℕ)) (run : List (NodeEvent × ℕ)) → IsMeta plan.meta
     → AllByRecursion PacketFits (updater_sent_in (new_updater plan image to) run)
 
 -- ---- distributors
