@@ -12,13 +12,12 @@ use Rattle.mu_model_node.specs.Safe.{Happening, Done, CutPower, Torn, happened, 
 use Rattle.mu_model_node.specs.Sound.{IsNodeDurable}
 use Rattle.mu_model_fates.specs.Laws.{come_by}
 use Rattle.mu_model_packets.specs.Laws.{PacketFits, IsAnswer, NodesSendFit}
-use Rattle.mu_model_told.specs.Laws.{HasNumbers}
 use Rattle.mu_model_told.specs.Reached.{HappeningFits, sent_by, sent_in}
 use Rattle.mu_model_world.specs.World.{Member, config_of}
 use Rattle.mu_model_world.specs.Outcomes.{new_member}
 use Rattle.mu_model_mesh_safety.proofs.Deeds.{AreIn}
 use Rattle.mu_model_mesh_safety.proofs.Kept.{NodeRun, IsLogOf}
-use Rattle.mu_model_mesh_safety.proofs.KeepingLists.{all_append, all_right, weaker}
+use Rattle.mu_model_mesh_safety.proofs.KeepingLists.{all_append, weaker}
 use Rattle.mu_model_mesh_safety.proofs.KeepingPackets.{AllFrom, in_wider, sent_other, sent_own, come_on}
 
 -- a node, and what the log has of it

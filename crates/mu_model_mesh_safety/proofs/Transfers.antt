@@ -1,24 +1,22 @@
 -- The transfers that the bag keeps with its packets.
-use Rattle.std.proofs.Common.{◌≡◌, ℕ, ◌<◌, ◌*◌, ◌^◌, ◌+◌, Bool, true, false, List, [], ◌∷◌, ◌++◌, map, Option, Some, None, is_some, nat_eq, refl, sym, ap, subst, ◌∙◌, inl, inr, ◌⊎◌, append-nil}
+use Rattle.std.proofs.Common.{◌≡◌, ℕ, ◌<◌, ◌*◌, ◌^◌, ◌+◌, Bool, true, false, List, [], ◌∷◌, ◌++◌, map, Option, Some, None, is_some, nat_eq, refl, sym, ap, subst, ◌∙◌, ◌⊎◌}
 use Rattle.std.specs.Prelude.{◌||◌}
 use Rattle.std.specs.List.{AllByRecursion}
 use Rattle.std.specs.Map.{lookup, set_value}
 use Rattle.mu_model_wire.specs.Packet.{Packet}
-use Rattle.mu_model_node.specs.Safe.{Happening, Done, CutPower, Torn}
 use Rattle.mu_model_client_laws.specs.Laws.{PlansStay}
 use Rattle.mu_model_distributor.specs.DistState.{DistState, transfer_id}
-use Rattle.mu_model_distributor.specs.Sound.{IsDistState}
 use Rattle.mu_model_distributor_laws.specs.RowMoves.{Each}
 use Rattle.mu_model_distributor_laws.specs.RunLaws.{RunsAreInOrder, IsInOrder}
 use Rattle.mu_model_offers.specs.Laws.{end_of}
-use Rattle.mu_model_offers.specs.Packets.{PacketsSayStarts, packets_by}
+use Rattle.mu_model_offers.specs.Packets.{PacketsSayStarts}
 use Rattle.mu_model_updater.specs.Laws.{SendsFromItsAddress}
-use Rattle.mu_model_updater.specs.Updater.{Updater, new_updater, updater_after, updater_step}
+use Rattle.mu_model_updater.specs.Updater.{Updater, new_updater}
 use Rattle.mu_model_world.specs.Judged.{owner_of}
 use Rattle.mu_model_world.specs.World.{config_of}
-use Rattle.mu_model_mesh.specs.Mesh.{UpdaterMember, DistributorMember, Mesh, new_mesh, is_member, node_at, updater_at, distributor_at}
+use Rattle.mu_model_mesh.specs.Mesh.{UpdaterMember, DistributorMember, Mesh, new_mesh, is_member, updater_at, distributor_at}
 use Rattle.mu_model_mesh_safety.specs.Facts.{has_transfers, IsTransferOf, TransfersAreKept}
-use Rattle.mu_model_mesh_safety.proofs.Deeds.{SameAir, MoreAir, IsStill, Says, NodeGoes, UpdaterGoes, DistributorGoes, Deed, still, says, node_goes, updater_goes, distributor_goes, adds_node, adds_updater, adds_distributor, stocks}
+use Rattle.mu_model_mesh_safety.proofs.Deeds.{SameAir, MoreAir, Deed, still, says, node_goes, updater_goes, distributor_goes, adds_node, adds_updater, adds_distributor, stocks}
 use Rattle.mu_model_mesh_safety.proofs.KeepingDistributors.{distributor_sends_from}
 use Rattle.mu_model_mesh_safety.proofs.KeepingLists.{SamePlaces, changed_places, set_there}
 use Rattle.mu_model_mesh_safety.proofs.KeepingPackets.{AllFrom}

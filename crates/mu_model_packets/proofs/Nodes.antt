@@ -6,7 +6,7 @@ use Rattle.mu_model_node.specs.declared.NodeConfig.{NodeConfig}
 use Rattle.mu_model_node.specs.BlobMessages.{BlobInformationStatus, TransferStatus, BlockStatus, PartialBlockReport}
 use Rattle.mu_model_node.specs.UpdateMessages.{InformationStatus, MetadataStatus, UpdateStatus}
 use Rattle.mu_model_node.specs.NodeMessages.{Request, request_at, Reply, ByUpdate, ByBlob, reply_octets, reply_packet}
-use Rattle.mu_model_node.specs.NodeState.{NodeState, is_addressee, update_phase, restarted}
+use Rattle.mu_model_node.specs.NodeState.{NodeState, is_addressee, update_phase}
 use Rattle.mu_model_node.specs.Events.{NodeEvent, PacketComes, TimeComes, on_request, on_packet, on_event, passed_over, at_moment}
 use Rattle.mu_model_node.specs.Safe.{Happening, Done, CutPower, Torn, happened}
 use Rattle.mu_model_node.specs.TimeTable.{on_time}

@@ -1,5 +1,5 @@
 -- What members of a script send is in the ranges that every member expects, so that the laws of each hold with the packets of the others.
-use Rattle.std.specs.Prelude.{ℕ, ◌≡◌, ◌≤◌, List, length, None, Some}
+use Rattle.std.specs.Prelude.{ℕ, ◌≡◌, ◌≤◌, List, None, Some}
 use Rattle.std.specs.List.{AllByRecursion}
 use Rattle.mu_model_image.specs.Meta.{Image, IsMeta}
 use Rattle.mu_model_wire.specs.Laws.{AreOctets}
