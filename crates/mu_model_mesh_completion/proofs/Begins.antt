@@ -1,0 +1,202 @@
+-- The members of a world in which an updater is about to begin can begin.
+use Rattle.std.proofs.Common.{◌≡◌, ◌≢◌, ◌<◌, ◌≤◌, ◌+◌, ◌*◌, ◌^◌, ℕ, nat_eq, Bool, true, false, List, [], ◌∷◌, ◌++◌, length, map, refl, sym, ap, subst, ◌∙◌, cond, arith, length-append, Option, Some, None, inl, inr, ◌⊎◌}
+use Rattle.std.specs.Prelude.{◌==◌}
+use Rattle.std.specs.List.{AllByRecursion, flat_map}
+use Rattle.std.proofs.lemmas.Bool.{eqb-true, ne_eqb, eq-eqb}
+use Rattle.byteorder.specs.Endian.{little_bytes}
+use Rattle.mu_model_image.specs.declared.Meta.{Meta}
+use Rattle.mu_model_image.specs.Meta.{Image, IsMeta, meta_octets, image_of}
+use Rattle.mu_model_image.specs.Laws.{ImagesFit, ImagesHaveMetadata}
+use Rattle.mu_model_node.specs.NodeState.{Job, NodeState}
+use Rattle.mu_model_told.specs.Laws.{HasNumbers}
+use Rattle.mu_model_client.specs.Begin.{is_ended, new_active}
+use Rattle.mu_model_client.specs.Client.{Client}
+use Rattle.mu_model_updater.specs.Updater.{UpdaterLine, plan_of, updater_of, first_image}
+use Rattle.mu_model_world.specs.World as w
+use Rattle.mu_model_world.specs.World.{config_of}
+use Rattle.mu_model_mesh.specs.Mesh.{UpdaterMember, Mesh, node_at, updater_at}
+use Rattle.mu_model_mesh.specs.MeshOutcomes.{mesh_begun}
+use Rattle.mu_model_mesh.specs.Settle.{Settles}
+use Rattle.mu_model_completion.specs.Completion as typed
+use Rattle.mu_model_completion.specs.Completion.{at_address, IsQuiet, IsUpdate, CanBegin, PushCompletes, push_turns}
+use Rattle.mu_model_completion.specs.Turn.{Member, IsNode, IsUpdater, settle}
+use Rattle.mu_model_mesh_completion.specs.Settled as settled
+use Rattle.mu_model_mesh_completion.specs.Settled.{JobHasMessages, IsWorld, IsLine, CanSettle, IsCompleted}
+use Rattle.mu_model_mesh_completion.specs.Laws.{SettleCompletes}
+use Rattle.mu_model_mesh_completion.proofs.Shown.{JobFits}
+use Rattle.mu_model_mesh_completion.proofs.Nodes.{NodeFits}
+use Rattle.mu_model_mesh_completion.proofs.Asks.{SendingFits, Indexes, ClientFits}
+use Rattle.mu_model_mesh_completion.proofs.Members.{AllLaws, MemberFits}
+use Rattle.mu_model_mesh_completion.proofs.Worlds.{members_by, member_of, members, Stable}
+use Rattle.mu_model_mesh_completion.proofs.Happens.{Wire}
+use Rattle.mu_model_mesh_completion.proofs.Each.{all_joined}
+use Rattle.mu_model_mesh_completion.proofs.Turns.{Here, settles}
+use Rattle.mu_model_mesh_completion.proofs.Ends.{found, distinct, completed}
+
+-- ---- what the line says
+
+pub record Images : Type 0 where
+  pub fit : ImagesFit
+  pub metadata : ImagesHaveMetadata
+
+line_meta : Images → (line : UpdaterLine) → IsLine line → IsMeta (plan_of line).meta
+line_meta images line h = images.metadata line.version line.content (omega (arith, h.content_least)) (omega (arith, h.content_most)) h.version
+
+meta_length : (meta : Meta) → length meta.digest ≡ 32 → length (meta_octets meta) ≤ 255
+meta_length meta h = omega (arith, h)
+
+sending_fits : Images → (line : UpdaterLine) → IsLine line → SendingFits (plan_of line).sending (updater_of line).client.purpose line.content
+sending_fits images line h = record {
+  id = omega (arith, h.address, h.id);
+  ttl = h.ttl;
+  base = h.base;
+  mode_least = h.mode_least;
+  mode_most = h.mode_most;
+  log_least = h.log_least;
+  log_most = h.log_most;
+  chunk_least = h.chunk_least;
+  chunk_most = h.chunk_most;
+  size_least = h.content_least;
+  size_most = h.content_most;
+  whole = refl;
+  metadata = meta_length (plan_of line).meta (line_meta images line h).digest_length;
+}
+
+first_indexes : (to : List ℕ) → Indexes (map new_active (map first_image to))
+first_indexes [] = tt
+first_indexes (a ∷ to) = (omega arith, first_indexes to)
+
+begins_fit : Images → (line : UpdaterLine) → IsLine line → ClientFits (updater_of line).client line.content
+begins_fit images line h = record { sending = sending_fits images line h; indexes = first_indexes line.receivers; queue = tt; place = tt }
+
+is_update : Images → (line : UpdaterLine) → IsLine line → IsUpdate (plan_of line) line.content
+is_update images line h = record {
+  log_least = h.log_least;
+  log_most = h.log_most;
+  chunk_least = h.chunk_least;
+  chunk_most = h.chunk_most;
+  size = refl;
+  meta = line_meta images line h;
+  fit = images.fit line.version line.content;
+  apply = refl;
+}
+
+-- ---- members
+
+job_fits : (job : Option Job) → HasNumbers job → JobHasMessages job → JobFits job
+job_fits None h k = tt
+job_fits (Some j) h k = (h, k)
+
+node_fits : (a : ℕ) (n : w.Member) → settled.IsNode a n → NodeFits n.state
+node_fits a n h = record { sound = h.state; ranges = record { job = job_fits n.state.durable.job h.numbers h.messages; last = h.last } }
+
+updater_fits : Images → (line : UpdaterLine) (m : Mesh) → IsWorld m → CanSettle line m → (a : ℕ) (u : UpdaterMember) → updater_at m a ≡ Some u → (t : Bool) → nat_eq a line.address ≡ t
+    → (is_ended u.updater.client.place ≡ true) ⊎ ClientFits u.updater.client u.updater.image.octets
+updater_fits images line m world can a u at true t =
+    let same : a ≡ line.address = eqb-true a line.address t in
+    let own : updater_at m a ≡ Some (record { moment = can.moment; updater = updater_of line }) = subst (λ b. updater_at m b ≡ Some (record { moment = can.moment; updater = updater_of line })) (sym same) can.updater in
+    let is : record { moment = can.moment; updater = updater_of line } ≡ u = cc in
+    inr (subst (λ (x : UpdaterMember). ClientFits x.updater.client x.updater.image.octets) is (begins_fit images line can.range))
+updater_fits images line m world can a u at false t =
+    inl (can.ended a u (λ e. true_false (sym (eq-eqb a line.address e) ∙ t)) at)
+  where
+    true_false : true ≡ false → ⊥
+    true_false e = cc
+
+member_fits : Images → (line : UpdaterLine) (m : Mesh) → IsWorld m → CanSettle line m → (a : ℕ) (n : Option w.Member) (u : Option UpdaterMember) → node_at m a ≡ n → updater_at m a ≡ u
+    → AllByRecursion MemberFits (members_by a n u)
+member_fits images line m world can a (Some n) u at up = (node_fits a n (world.nodes a n at), tt)
+member_fits images line m world can a None (Some u) at up = (((world.updaters a u up).0, updater_fits images line m world can a u up (nat_eq a line.address) refl), tt)
+member_fits images line m world can a None None at up = tt
+
+members_fit : Images → (line : UpdaterLine) (m : Mesh) → IsWorld m → CanSettle line m → (bs : List ℕ) → AllByRecursion MemberFits (flat_map (member_of m) bs)
+members_fit images line m world can [] = tt
+members_fit images line m world can (b ∷ bs) =
+    all_joined MemberFits (member_of m b) (flat_map (member_of m) bs) (member_fits images line m world can b (node_at m b) (updater_at m b) refl refl) (members_fit images line m world can bs)
+
+here : Images → (line : UpdaterLine) (m : Mesh) → IsWorld m → CanSettle line m → Here (mesh_begun m) (members m)
+here images line m world can = record {
+  is = refl;
+  stable = record { no_distributor = can.no_distributor; no_tear = can.no_tear };
+  once = world.once;
+  fits = members_fit images line m world can m.order;
+}
+
+-- ---- all but the updater are quiet
+
+abbrev QuietBut : ℕ → Member → Type 0
+QuietBut u x = (x.config.address == u) ≡ false → IsQuiet x.part
+
+member_quiet : (line : UpdaterLine) (m : Mesh) → CanSettle line m → (a : ℕ) (n : Option w.Member) (u : Option UpdaterMember) → updater_at m a ≡ u → AllByRecursion (QuietBut line.address) (members_by a n u)
+member_quiet line m can a (Some n) u up = ((λ e. tt), tt)
+member_quiet line m can a None (Some u) up = ((λ e. can.ended a u (λ is. true_false (sym (eq-eqb a line.address is) ∙ e)) up), tt)
+  where
+    true_false : true ≡ false → ⊥
+    true_false e = cc
+member_quiet line m can a None None up = tt
+
+all_quiet : (line : UpdaterLine) (m : Mesh) → CanSettle line m → (bs : List ℕ) → AllByRecursion (QuietBut line.address) (flat_map (member_of m) bs)
+all_quiet line m can [] = tt
+all_quiet line m can (b ∷ bs) = all_joined (QuietBut line.address) (member_of m b) (flat_map (member_of m) bs) (member_quiet line m can b (node_at m b) (updater_at m b) refl) (all_quiet line m can bs)
+
+-- ---- receivers
+
+takes : (line : UpdaterLine) (m : Mesh) → IsWorld m → (a : ℕ) → settled.Takes line m a → typed.Takes (plan_of line) (members m) a
+takes line m world a h =
+    let n : w.Member = h.node in
+    let node = world.nodes a n h.found in
+    record {
+      config = config_of a n;
+      moment = n.moment;
+      state = n.state;
+      found = found m a m.order (record { config = config_of a n; moment = n.moment; part = IsNode n.state }) (ap (λ (x : Option w.Member). members_by a x (updater_at m a)) h.found) refl h.member;
+      handed = node.handed;
+      idle = h.idle;
+      active = h.active;
+      others = h.others;
+      images = h.images;
+      older = h.older;
+      room = h.room;
+      unicast = node.unicast;
+      some_group = node.some_group;
+      in_group = h.in_group;
+    }
+
+all_take : (line : UpdaterLine) (m : Mesh) → IsWorld m → (to : List ℕ) → AllByRecursion (settled.Takes line m) to → AllByRecursion (typed.Takes (plan_of line) (members m)) to
+all_take line m world [] h = tt
+all_take line m world (a ∷ to) h = (takes line m world a h.0, all_take line m world to h.1)
+
+pairs : (to : List ℕ) → map first_image to ≡ map (λ a. (a, 0)) to
+pairs to = refl
+
+-- ---- the beginning
+
+can_begin : Images → (line : UpdaterLine) (m : Mesh) → IsWorld m → CanSettle line m → CanBegin (plan_of line) line.content line.receivers (members m)
+can_begin images line m world can =
+    let nobody_there : node_at m line.address ≡ None = (world.updaters line.address (record { moment = can.moment; updater = updater_of line }) can.updater).1 in
+    let own : Member = record { config = record { address = line.address; group = 0 }; moment = can.moment; part = IsUpdater (updater_of line).client line.content } in
+    record {
+      update = is_update images line can.range;
+      config = record { address = line.address; group = 0 };
+      moment = can.moment;
+      from = refl;
+      updater =
+          found m line.address m.order own
+          (ap (λ (x : Option w.Member). members_by line.address x (updater_at m line.address)) nobody_there ∙ ap (λ (x : Option UpdaterMember). members_by line.address None x) can.updater)
+          refl can.member;
+      distinct = distinct m m.order world.once;
+      quiet = all_quiet line m can m.order;
+      some = can.range.some;
+      few = can.range.few;
+      none_twice = can.range.none_twice;
+      takes = all_take line m world line.receivers can.takes;
+    }
+
+pub settle_completes : AllLaws → Wire → Images → PushCompletes → SettleCompletes
+unfolding can_begin
+settle_completes laws wire images push line m next text turns world can mode enough s =
+    let at : Here next (settle turns (members m)) = settles laws wire turns (mesh_begun m) text next (members m) (here images line m world can) s in
+    let done = push (plan_of line) line.content line.receivers (members m) (can_begin images line m world can) mode turns enough in
+    completed line next (at_address line.address (members next)) refl
+    (ap (λ (xs : List Member). typed.rows_in (at_address line.address xs)) at.is ∙ done.rows)
+    (ap (λ (xs : List Member). typed.drops_in (at_address line.address xs)) at.is ∙ done.drops)

@@ -1,0 +1,115 @@
+-- A world in which an updater is about to begin has members that can begin, and typed members that have completed are those of a world
+-- in which the update is complete.
+use Rattle.std.proofs.Common.{◌≡◌, ◌≢◌, ◌<◌, ◌≤◌, ◌+◌, ◌*◌, ◌^◌, ℕ, nat_eq, Bool, true, false, List, [], ◌∷◌, ◌++◌, length, map, refl, sym, ap, subst, ◌∙◌, cond, arith, length-append, Option, Some, None, inl, inr, ◌⊎◌}
+use Rattle.std.specs.Prelude.{◌==◌, ◌||◌, if◌then◌else◌}
+use Rattle.std.specs.List.{AllByRecursion, flat_map, list_any}
+use Rattle.std.proofs.lemmas.Bool.{eqb-true, ne_eqb, eq-eqb}
+use Rattle.byteorder.specs.Endian.{little_bytes}
+use Rattle.mu_model_image.specs.Meta.{IsMeta, meta_octets, image_of}
+use Rattle.mu_model_image.specs.Laws.{ImagesFit, ImagesHaveMetadata}
+use Rattle.mu_model_node.specs.NodeState.{Job, NodeState}
+use Rattle.mu_model_told.specs.Laws.{HasNumbers}
+use Rattle.mu_model_client.specs.Rows.{Row}
+use Rattle.mu_model_client.specs.declared.Dropped.{Dropped}
+use Rattle.mu_model_client.specs.Begin.{is_ended, start, new_active}
+use Rattle.mu_model_client.specs.Client.{Receiver, rows}
+use Rattle.mu_model_updater.specs.Updater.{UpdaterLine, plan_of, updater_of, first_image}
+use Rattle.mu_model_world.specs.World as w
+use Rattle.mu_model_world.specs.World.{config_of}
+use Rattle.mu_model_mesh.specs.Mesh.{UpdaterMember, Mesh, is_member, node_at, updater_at}
+use Rattle.mu_model_mesh.specs.MeshOutcomes.{mesh_begun}
+use Rattle.mu_model_completion.specs.Completion as typed
+use Rattle.mu_model_completion.specs.Completion.{at_address, Distinct, IsQuiet, AllQuiet, rows_of, rows_in, drop_of, drops_of, drops_in, IsUpdate, NoneTwice, CanBegin, succeeded, Completed}
+use Rattle.mu_model_completion.specs.Turn.{Member, IsNode, IsUpdater}
+use Rattle.mu_model_mesh_completion.specs.Settled as settled
+use Rattle.mu_model_mesh_completion.specs.Settled.{JobHasMessages, IsWorld, IsLine, CanSettle, IsCompleted}
+use Rattle.mu_model_mesh_completion.proofs.Shown.{JobFits}
+use Rattle.mu_model_mesh_completion.proofs.Asks.{SendingFits, Indexes, ClientFits}
+use Rattle.mu_model_mesh_completion.proofs.Members.{MemberFits}
+use Rattle.mu_model_mesh_completion.proofs.Worlds.{members_by, member_of, members, Stable}
+use Rattle.mu_model_mesh_completion.proofs.Each.{all_joined}
+use Rattle.mu_model_mesh_completion.proofs.Turns.{Here}
+
+-- ---- members by address
+
+own_address : (a : ℕ) (n : Option w.Member) (u : Option UpdaterMember) → AllByRecursion (λ (x : Member). x.config.address ≡ a) (members_by a n u)
+own_address a (Some n) u = (refl, tt)
+own_address a None (Some u) = (refl, tt)
+own_address a None None = tt
+
+skipped : (a b : ℕ) (xs ys : List Member) → (b ≡ a → ⊥) → AllByRecursion (λ (x : Member). x.config.address ≡ b) xs → at_address a (xs ++ ys) ≡ at_address a ys
+skipped a b [] ys ne h = refl
+skipped a b (x ∷ xs) ys ne h =
+    let other : (x.config.address == a) ≡ false = ne_eqb x.config.address a (λ (e : x.config.address ≡ a). ne (sym h.0 ∙ e)) in
+    rw (other, skipped a b xs ys ne h.1) refl
+
+absent : (m : Mesh) (a : ℕ) (bs : List ℕ) → AllByRecursion (λ b. a ≢ b) bs → at_address a (flat_map (member_of m) bs) ≡ None
+absent m a [] h = refl
+absent m a (b ∷ bs) h = skipped a b (member_of m b) (flat_map (member_of m) bs) (λ e. h.0 (sym e)) (own_address b (node_at m b) (updater_at m b)) ∙ absent m a bs h.1
+
+found_by : (m : Mesh) (a b : ℕ) (bs : List ℕ) (x : Member) (t : Bool) → nat_eq a b ≡ t → member_of m a ≡ x ∷ [] → x.config.address ≡ a → (t || list_any (nat_eq a) bs) ≡ true
+    → (list_any (nat_eq a) bs ≡ true → at_address a (flat_map (member_of m) bs) ≡ Some x) → at_address a (flat_map (member_of m) (b ∷ bs)) ≡ Some x
+found_by m a b bs x true t is at h k =
+    let same : a ≡ b = eqb-true a b t in
+    let own : member_of m b ≡ x ∷ [] = subst (λ c. member_of m c ≡ x ∷ []) same is in
+    let here : (x.config.address == a) ≡ true = eq-eqb x.config.address a at in
+    rw (own, here) refl
+found_by m a b bs x false t is at h k =
+    let ne : b ≡ a → ⊥ = λ e. true_false (sym (eq-eqb a b (sym e)) ∙ t) in
+    skipped a b (member_of m b) (flat_map (member_of m) bs) ne (own_address b (node_at m b) (updater_at m b)) ∙ k h
+  where
+    true_false : true ≡ false → ⊥
+    true_false e = cc
+
+pub found : (m : Mesh) (a : ℕ) (bs : List ℕ) (x : Member) → member_of m a ≡ x ∷ [] → x.config.address ≡ a → list_any (nat_eq a) bs ≡ true → at_address a (flat_map (member_of m) bs) ≡ Some x
+found m a [] x is at h = cc
+found m a (b ∷ bs) x is at h = found_by m a b bs x (nat_eq a b) refl is at h (found m a bs x is at)
+
+one_distinct : (m : Mesh) (b : ℕ) (n : Option w.Member) (u : Option UpdaterMember) (xs : List Member) → at_address b xs ≡ None → Distinct xs → Distinct (members_by b n u ++ xs)
+one_distinct m b (Some n) u xs h k = (h, k)
+one_distinct m b None (Some u) xs h k = (h, k)
+one_distinct m b None None xs h k = k
+
+pub distinct : (m : Mesh) (bs : List ℕ) → NoneTwice bs → Distinct (flat_map (member_of m) bs)
+distinct m [] h = tt
+distinct m (b ∷ bs) h = one_distinct m b (node_at m b) (updater_at m b) (flat_map (member_of m) bs) (absent m b bs h.0) (distinct m bs h.1)
+
+back_one : (m : Mesh) (a b : ℕ) (rest : Option Member) (x y : Member) (t : Bool) → (b == a) ≡ t → member_of m b ≡ y ∷ [] → cond t (Some y) rest ≡ Some x → (rest ≡ Some x → member_of m a ≡ x ∷ []) → member_of m a ≡ x ∷ []
+back_one m a b rest x y true t is h k =
+    let same : y ≡ x = cc in
+    let at : b ≡ a = eqb-true b a t in
+    subst (λ c. member_of m c ≡ x ∷ []) at (is ∙ ap (λ (z : Member). z ∷ []) same)
+back_one m a b rest x y false t is h k = k h
+
+back_by : (m : Mesh) (a b : ℕ) (bs : List ℕ) (x : Member) (n : Option w.Member) (u : Option UpdaterMember) → member_of m b ≡ members_by b n u → at_address a (members_by b n u ++ flat_map (member_of m) bs) ≡ Some x
+    → (at_address a (flat_map (member_of m) bs) ≡ Some x → member_of m a ≡ x ∷ []) → member_of m a ≡ x ∷ []
+back_by m a b bs x (Some n) u is h k = back_one m a b (at_address a (flat_map (member_of m) bs)) x (record { config = config_of b n; moment = n.moment; part = IsNode n.state }) (b == a) refl is h k
+back_by m a b bs x None (Some u) is h k =
+    back_one m a b (at_address a (flat_map (member_of m) bs)) x (record { config = record { address = b; group = 0 }; moment = u.moment; part = IsUpdater u.updater.client u.updater.image.octets }) (b == a) refl is h k
+back_by m a b bs x None None is h k = k h
+
+back : (m : Mesh) (a : ℕ) (bs : List ℕ) (x : Member) → at_address a (flat_map (member_of m) bs) ≡ Some x → member_of m a ≡ x ∷ []
+back m a [] x h = cc
+back m a (b ∷ bs) x h = back_by m a b bs x (node_at m b) (updater_at m b) refl h (back m a bs x)
+
+-- ---- the end
+
+completed_by : (line : UpdaterLine) (m : Mesh) (x : Member) (n : Option w.Member) (u : Option UpdaterMember) → updater_at m line.address ≡ u → members_by line.address n u ≡ x ∷ []
+    → rows_of x.part ≡ Some (map succeeded line.receivers) → drops_of x.part ≡ Some (map (λ a. None) line.receivers) → IsCompleted line m
+completed_by line m x (Some n) u at is r d =
+    let same : record { config = config_of line.address n; moment = n.moment; part = IsNode n.state } ≡ x = cc in
+    let none : rows_of (IsNode n.state) ≡ Some (map succeeded line.receivers) = ap (λ (y : Member). rows_of y.part) same ∙ r in
+    absurd (some_none none)
+  where
+    some_none : {A : Type 0} {a : A} → None ≡ Some a → ⊥
+    some_none e = cc
+completed_by line m x None (Some u) at is r d =
+    let same : record { config = record { address = line.address; group = 0 }; moment = u.moment; part = IsUpdater u.updater.client u.updater.image.octets } ≡ x = cc in
+    let own : Some (rows u.updater.client) ≡ Some (map succeeded line.receivers) = ap (λ (y : Member). rows_of y.part) same ∙ r in
+    let gone : Some (map drop_of u.updater.client.receivers) ≡ Some (map (λ a. None) line.receivers) = ap (λ (y : Member). drops_of y.part) same ∙ d in
+    record { member = u; found = at; rows = cc; drops = cc }
+completed_by line m x None None at is r d = cc
+
+pub completed : (line : UpdaterLine) (m : Mesh) (o : Option Member) → at_address line.address (members m) ≡ o → rows_in o ≡ Some (map succeeded line.receivers) → drops_in o ≡ Some (map (λ a. None) line.receivers) → IsCompleted line m
+completed line m None e r d = cc
+completed line m (Some x) e r d = completed_by line m x (node_at m line.address) (updater_at m line.address) refl (back m line.address m.order x e) r d

@@ -1,0 +1,13 @@
+pub mod Replies
+pub mod Shown
+pub mod Served
+pub mod Nodes
+pub mod Asks
+pub mod Moments
+pub mod Members
+pub mod Worlds
+pub mod Happens
+pub mod Each
+pub mod Turns
+pub mod Ends
+pub mod Begins

@@ -1,0 +1,162 @@
+-- The members of a world, and how an event changes them.
+use Rattle.std.proofs.Common.{◌≡◌, ◌<◌, ◌+◌, ◌-◌, ℕ, zero, suc, nat_eq, Bool, true, false, List, [], ◌∷◌, ◌++◌, length, map, replicate, refl, sym, ap, subst, ◌∙◌, cond, arith, max, Option, Some, None}
+use Rattle.std.specs.Prelude.{◌==◌, Contains, slice_index_or}
+use Rattle.std.specs.List.{AllByRecursion, flat_map}
+use Rattle.std.specs.Map.{lookup, set_value}
+use Rattle.std.proofs.lemmas.Bool.{eqb-true, ne_eqb, eq-eqb}
+use Rattle.mu_model_wire.specs.Packet.{Packet}
+use Rattle.mu_model_node.specs.Events.{NodeEvent, NodeStep, node_step}
+use Rattle.mu_model_node.specs.NodeMessages.{reply_octets}
+use Rattle.mu_model_client.specs.Packets.{request_octets}
+use Rattle.mu_model_updater.specs.Updater.{UpdaterStep}
+use Rattle.mu_model_world.specs.World as w
+use Rattle.mu_model_world.specs.World.{Tear, config_of}
+use Rattle.mu_model_world.specs.Outcomes.{ran, happens, happens_by}
+use Rattle.mu_model_mesh.specs.Mesh.{UpdaterMember, DistributorMember, Mesh, node_at, updater_at, distributor_at}
+use Rattle.mu_model_mesh.specs.MeshOutcomes.{MeshOutcome, of_nodes, all_of_nodes, updater_ran}
+use Rattle.mu_model_completion.specs.Turn.{Member, Part, IsNode, IsUpdater, Body, Asks, Replies, Sent}
+
+-- ---- members
+
+abbrev pub members_by : ℕ → Option w.Member → Option UpdaterMember → List Member
+members_by address (Some n) u = record { config = config_of address n; moment = n.moment; part = IsNode n.state } ∷ []
+members_by address None (Some u) =
+    record { config = record { address = address; group = 0 }; moment = u.moment; part = IsUpdater u.updater.client u.updater.image.octets } ∷ []
+members_by address None None = []
+
+-- what stands at an address
+abbrev pub member_of : Mesh → ℕ → List Member
+member_of m address = members_by address (node_at m address) (updater_at m address)
+
+abbrev pub members : Mesh → List Member
+members m = flat_map (member_of m) m.order
+
+-- ---- packets
+
+abbrev pub body_octets : Body → List ℕ
+body_octets (Asks request) = request_octets request
+body_octets (Replies reply) = reply_octets reply
+
+abbrev pub packet_of : Sent → Packet
+packet_of p = record { from = p.from; to = p.to; payload = body_octets p.body }
+
+-- ---- outcomes
+
+only_at : {X : Type 0} (x y : X) (k : ℕ) → k < 1 → slice_index_or (x ∷ []) k y ≡ y → x ≡ y
+only_at x y zero h e = e
+only_at x y (suc k) h e = absurd (omega (arith, h))
+
+pub only : {X : Type 0} (x y : X) → Contains (x ∷ []) y → x ≡ y
+only x y h = only_at x y h.0 h.1 h.2
+
+pub none : {X : Type 0} (y : X) → Contains [] y → ⊥
+none y h = let below = h.1 in omega (arith, below)
+
+-- ---- entries
+
+here_by : {X : Type 0} (a : ℕ) (e : ℕ × X) (es : List (ℕ × X)) (v w : X) (b : Bool) → nat_eq a e.0 ≡ b → cond b (Some e.1) (lookup (nat_eq a) es) ≡ Some v
+    → (lookup (nat_eq a) es ≡ Some v → lookup (nat_eq a) (set_value (nat_eq a) es w) ≡ Some w)
+    → lookup (nat_eq a) (cond b ((e.0, w) ∷ es) (e ∷ set_value (nat_eq a) es w)) ≡ Some w
+here_by a e es v w true t h k = rw t refl
+here_by a e es v w false t h k = rw t (k h)
+
+pub set_here : {X : Type 0} (a : ℕ) (es : List (ℕ × X)) (v w : X) → lookup (nat_eq a) es ≡ Some v → lookup (nat_eq a) (set_value (nat_eq a) es w) ≡ Some w
+set_here a [] v w h = cc
+set_here a (e ∷ es) v w h = here_by a e es v w (nat_eq a e.0) refl h (set_here a es v w)
+
+there_by : {X : Type 0} (a b : ℕ) (e : ℕ × X) (es : List (ℕ × X)) (w : X) (t : Bool) → nat_eq a e.0 ≡ t → (a ≡ b → ⊥)
+    → lookup (nat_eq b) (set_value (nat_eq a) es w) ≡ lookup (nat_eq b) es
+    → lookup (nat_eq b) (cond t ((e.0, w) ∷ es) (e ∷ set_value (nat_eq a) es w)) ≡ lookup (nat_eq b) (e ∷ es)
+there_by a b e es w true t ne k =
+    let at : a ≡ e.0 = eqb-true a e.0 t in
+    let other : nat_eq b e.0 ≡ false = ne_eqb b e.0 (λ (is : b ≡ e.0). ne (at ∙ sym is)) in
+    rw other refl
+there_by a b e es w false t ne k = ap (λ (o : Option _). cond (nat_eq b e.0) (Some e.1) o) k
+
+pub set_there : {X : Type 0} (a b : ℕ) (es : List (ℕ × X)) (w : X) → (a ≡ b → ⊥) → lookup (nat_eq b) (set_value (nat_eq a) es w) ≡ lookup (nat_eq b) es
+set_there a b [] w ne = refl
+set_there a b (e ∷ es) w ne = there_by a b e es w (nat_eq a e.0) refl ne (set_there a b es w ne)
+
+-- ---- no tear is to come, and no distributor is there
+
+pub record Stable (m : Mesh) : Type 0 where
+  pub no_distributor : m.distributors ≡ []
+  pub no_tear : (address : ℕ) (n : w.Member) → node_at m address ≡ Some n → n.tear ≡ None
+
+pub nobody : (m : Mesh) → Stable m → (address : ℕ) → distributor_at m address ≡ None
+nobody m h address = ap (λ (ds : List (ℕ × DistributorMember)). lookup (nat_eq address) ds) h.no_distributor
+
+-- ---- a node goes through a step
+
+pub record NodeRan (m next : Mesh) (address : ℕ) (n : w.Member) (step : NodeStep) : Type 0 where
+  pub here : member_of next address ≡ record { config = config_of address n; moment = n.moment; part = IsNode step.next } ∷ []
+  pub there : (b : ℕ) → (address ≡ b → ⊥) → member_of next b ≡ member_of m b
+  pub bag : next.nodes.bag ≡ m.nodes.bag ++ step.sent
+  pub order : next.order ≡ m.order
+  pub stable : Stable next
+
+tear_by : (m next : Mesh) (address : ℕ) (n : w.Member) (b : ℕ) (k : w.Member) (t : Bool) → nat_eq address b ≡ t → Stable m → n.tear ≡ None → node_at next address ≡ Some n
+    → ((c : ℕ) → (address ≡ c → ⊥) → node_at next c ≡ node_at m c) → node_at next b ≡ Some k → k.tear ≡ None
+tear_by m next address n b k true t s none here there h =
+    let at : address ≡ b = eqb-true address b t in
+    let same : node_at next b ≡ Some n = subst (λ c. node_at next c ≡ Some n) at here in
+    let is : n ≡ k = cc in
+    subst (λ (x : w.Member). x.tear ≡ None) is none
+tear_by m next address n b k false t s none here there h =
+    let ne : address ≡ b → ⊥ = λ is. false_or_true (sym (eq-eqb address b is) ∙ t) in
+    s.no_tear b k (sym (there b ne) ∙ h)
+  where
+    false_or_true : true ≡ false → ⊥
+    false_or_true e = cc
+
+pub node_ran : (m : Mesh) (address : ℕ) (old n : w.Member) (first : List ℕ) (step : NodeStep) → Stable m → node_at m address ≡ Some old → n.tear ≡ None
+    → NodeRan m (of_nodes m (ran m.nodes address n first step)).mesh address n step
+node_ran m address old n first step s at no_tear =
+    let next : Mesh = (of_nodes m (ran m.nodes address n first step)).mesh in
+    let new : w.Member = record n { state = step.next } in
+    let here : node_at next address ≡ Some new = set_here address m.nodes.members old new at in
+    let there : (b : ℕ) → (address ≡ b → ⊥) → node_at next b ≡ node_at m b = λ b ne. set_there address b m.nodes.members new ne in
+    record {
+      here = ap (λ (o : Option w.Member). members_by address o (updater_at m address)) here;
+      there = λ b ne. ap (λ (o : Option w.Member). members_by b o (updater_at m b)) (there b ne);
+      bag = refl;
+      order = refl;
+      stable = record { no_distributor = s.no_distributor; no_tear = λ b k h. tear_by m next address new b k (nat_eq address b) refl s no_tear here there h };
+    }
+
+happens_only_by : (m : Mesh) (address : ℕ) (n : w.Member) (event : NodeEvent) (first : List ℕ) (o : MeshOutcome) (worn : Bool) (tear : Option Tear) → tear ≡ None
+    → Contains (map (of_nodes m) (cond worn [] (happens_by m.nodes address n event first tear))) o
+    → of_nodes m (ran m.nodes address n first (node_step (config_of address n) n.state event n.moment)) ≡ o
+happens_only_by m address n event first o true tear e h = absurd (none o h)
+happens_only_by m address n event first o false None e h = only _ o h
+happens_only_by m address n event first o false (Some tear) e h = cc
+
+-- an event of a node that has no tear to come, where its flash isn't worn out
+pub happens_only : (m : Mesh) (address : ℕ) (n : w.Member) (event : NodeEvent) (first : List ℕ) (o : MeshOutcome) → n.tear ≡ None
+    → Contains (all_of_nodes m (happens m.nodes address n event first)) o
+    → of_nodes m (ran m.nodes address n first (node_step (config_of address n) n.state event n.moment)) ≡ o
+happens_only m address n event first o e h = happens_only_by m address n event first o _ n.tear e h
+
+-- ---- an updater goes through a step
+
+pub record UpdaterRan (m next : Mesh) (address : ℕ) (u : UpdaterMember) (step : UpdaterStep) : Type 0 where
+  pub here : member_of next address ≡ record { config = record { address = address; group = 0 }; moment = u.moment; part = IsUpdater step.next.client step.next.image.octets } ∷ []
+  pub there : (b : ℕ) → (address ≡ b → ⊥) → member_of next b ≡ member_of m b
+  pub bag : next.nodes.bag ≡ m.nodes.bag ++ step.sent
+  pub order : next.order ≡ m.order
+  pub stable : Stable next
+
+pub updater_went : (m : Mesh) (address : ℕ) (old u : UpdaterMember) (first : List ℕ) (step : UpdaterStep) → Stable m → node_at m address ≡ None → updater_at m address ≡ Some old
+    → UpdaterRan m (updater_ran m address u first step).mesh address u step
+updater_went m address old u first step s nobody_there at =
+    let next : Mesh = (updater_ran m address u first step).mesh in
+    let new : UpdaterMember = record u { updater = step.next } in
+    let here : updater_at next address ≡ Some new = set_here address m.updaters old new at in
+    let there : (b : ℕ) → (address ≡ b → ⊥) → updater_at next b ≡ updater_at m b = λ b ne. set_there address b m.updaters new ne in
+    record {
+      here = ap (λ (o : Option w.Member). members_by address o (updater_at next address)) nobody_there ∙ ap (λ (o : Option UpdaterMember). members_by address None o) here;
+      there = λ b ne. ap (λ (o : Option UpdaterMember). members_by b (node_at m b) o) (there b ne);
+      bag = refl;
+      order = refl;
+      stable = record { no_distributor = s.no_distributor; no_tear = s.no_tear };
+    }
