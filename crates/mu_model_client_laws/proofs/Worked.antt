@@ -1,6 +1,6 @@
 -- Worked rows, evaluated.
 use Rattle.std.proofs.Common.{refl}
-use Rattle.mu_model_client_laws.specs.Worked.{RepairsTheUnion, Completes, DropsTheSilent, DropsByStatus, DropsOthers, GoesOn}
+use Rattle.mu_model_client_laws.specs.Worked.{RepairsTheUnion, Completes, DropsTheSilent, DropsByStatus, EachStatusDrops, DropsOthers, GoesOn}
 
 pub repairs : RepairsTheUnion
 repairs = record { grouped = refl; alone = refl }
@@ -35,6 +35,17 @@ refusals = record {
   mtu = refl;
   chunks = refl;
   mode = refl;
+  transfer = refl;
+  block = refl;
+  pull = refl;
+  get = refl;
+  apply = refl;
+}
+
+pub each_status : EachStatusDrops
+each_status = record {
+  check = refl;
+  starting = refl;
   transfer = refl;
   block = refl;
   pull = refl;

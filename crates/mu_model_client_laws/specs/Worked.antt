@@ -232,6 +232,32 @@ pub record DropsByStatus : Type 0 where
   pub get : refused 1 at_get (block_refused 4) ≡ ended_with (2 ∷ 0 ∷ 4 ∷ 0 ∷ []) (Some (Status 7 4))
   pub apply : refused 1 at_apply (update_status 2 4) ≡ ended_with (4 ∷ 2 ∷ 0 ∷ 100 ∷ []) (Some (Status 9 2))
 
+-- and so with each other status of the steps that have one (MshDFU, MshMBT, Status)
+abbrev pub update_statuses : List ℕ
+update_statuses = 1 ∷ 2 ∷ 3 ∷ 4 ∷ 5 ∷ 6 ∷ 7 ∷ []
+
+abbrev pub transfer_statuses : List ℕ
+transfer_statuses = 1 ∷ 2 ∷ 3 ∷ 4 ∷ 5 ∷ 6 ∷ 7 ∷ 8 ∷ 9 ∷ 10 ∷ []
+
+abbrev pub transfer_refused : ℕ → ClientEvent
+transfer_refused status = says (FromBlob (TransferIs status 0 None None []))
+
+-- a row of this phase and progress, with the status in its place
+abbrev pub by_update : (step phase progress : ℕ) → ℕ → Seen
+by_update step phase progress status = ended_with (phase ∷ status ∷ 0 ∷ progress ∷ []) (Some (Status step status))
+
+abbrev pub by_transfer : (step : ℕ) → ℕ → Seen
+by_transfer step status = ended_with (2 ∷ 0 ∷ status ∷ 0 ∷ []) (Some (Status step status))
+
+pub record EachStatusDrops : Type 0 where
+  pub check : map (λ status. refused 1 at_check (metadata_status status)) update_statuses ≡ map (by_update 1 10 0) update_statuses
+  pub starting : map (λ status. refused 1 at_start (update_status status 2)) update_statuses ≡ map (by_update 2 2 0) update_statuses
+  pub transfer : map (λ status. refused 1 at_transfer (transfer_refused status)) transfer_statuses ≡ map (by_transfer 4) transfer_statuses
+  pub block : map (λ status. refused 1 (at_block 1) (block_refused status)) transfer_statuses ≡ map (by_transfer 5) transfer_statuses
+  pub pull : map (λ status. refused 2 (at_chunks 2) (block_refused status)) transfer_statuses ≡ map (by_transfer 6) transfer_statuses
+  pub get : map (λ status. refused 1 at_get (block_refused status)) transfer_statuses ≡ map (by_transfer 7) transfer_statuses
+  pub apply : map (λ status. refused 1 at_apply (update_status status 4)) update_statuses ≡ map (by_update 9 4 100) update_statuses
+
 -- ---- barren answers, and phases
 
 -- the chunks are sent again, and are missing again

@@ -1,6 +1,6 @@
 //! Laws of the client's definitions: functions that do nothing, whose contracts are proved.
 
-ghost use Rattle.mu_model_client_laws.specs.Worked.{RepairsTheUnion, Completes, DropsTheSilent, DropsByStatus, DropsOthers, GoesOn};
+ghost use Rattle.mu_model_client_laws.specs.Worked.{RepairsTheUnion, Completes, DropsTheSilent, DropsByStatus, EachStatusDrops, DropsOthers, GoesOn};
 ghost use Rattle.mu_model_client_laws.specs.WorkedInitiator.{Initiates};
 ghost use Rattle.mu_model_client_laws.specs.Wire.{RequestsAreRead, RequestsKeepTheirOpcodes, RequestsAreNoAnswers, RepliesAreRead};
 ghost use Rattle.mu_model_client_laws.specs.Asked.{ClientsSendTheirPlans};
@@ -108,6 +108,7 @@ pub fn worked_rows()
 pub fn worked_drops()
     ensures silent { DropsTheSilent }
     ensures status { DropsByStatus }
+    ensures each_status { EachStatusDrops }
     ensures others { DropsOthers }
 {}
 

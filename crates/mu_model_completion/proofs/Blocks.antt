@@ -1,5 +1,5 @@
 -- A block: begun, its chunks, and what is asked after them.
-use Rattle.std.proofs.Common.{◌≡◌, ◌⊎◌, inl, inr, ◌<◌, ◌≤◌, ◌+◌, ◌*◌, ℕ, zero, suc, List, [], ◌∷◌, ◌++◌, refl, sym, ap, ◌∙◌, subst, true, false, Bool, Option, Some, None, arith, map, length, set}
+use Rattle.std.proofs.Common.{◌≡◌, ◌==◌, ◌⊎◌, inl, inr, ◌<◌, ◌≤◌, ◌+◌, ◌*◌, ℕ, zero, suc, List, [], ◌∷◌, ◌++◌, refl, sym, ap, ◌∙◌, subst, true, false, Bool, Option, Some, None, arith, map, length, set}
 use Rattle.std.specs.Prelude.{nat_le}
 use Rattle.std.specs.List.{range_with_len, concat}
 use Rattle.std.proofs.lemmas.Bool.{eq-eqb}
@@ -56,6 +56,7 @@ module _ (fields : FieldsAreRead) (tiles : Tiles) (p : Sending) (meta : Meta) (i
 
   -- in block b, of whose chunks k have come and rem haven't
   pub record InBlock (b n k rem a : ℕ) (x : Pair) : Type 0 where
+    pub no_pull : (p.mode == 2) ≡ false
     pub capacity : ℕ
     pub active : Image
     pub images : List Image
@@ -78,11 +79,12 @@ module _ (fields : FieldsAreRead) (tiles : Tiles) (p : Sending) (meta : Meta) (i
     in_block_passes b n k rem a lt h =
         subst (λ s. Does (passes s (x.moment + 100)) (running p meta image h.capacity h.active h.images h.offer u 0 0 (held_of b (suc n)) (Some (current_in p meta image h.capacity h.active h.images h.offer u 0 0 b (got_of b k rem))) h.last h.count h.fresh h.heard (x.moment + 100)) []) (sym h.n_is)
         (block_time p meta image h.capacity h.active h.images h.offer u 0 0 (held_of b (suc n)) (current_in p meta image h.capacity h.active h.images h.offer u 0 0 b (got_of b k rem)) h.last h.count h.fresh h.heard x.moment (x.moment + 100)
-        good.no_pull (not_full blk b 0 n) (omega arith) (in_time p x.moment h.heard a h.lately lt))
+        h.no_pull (not_full blk b 0 n) (omega arith) (in_time p x.moment h.heard a h.lately lt))
 
     pub in_block_later : (b n k rem a : ℕ) → a < 99 → InBlock b n k rem a x → InBlock b n k rem (suc a) (pair_time v u x) × ((pair_time v u x).r ≡ x.r)
     in_block_later b n k rem a lt h = (
       record {
+        no_pull = h.no_pull;
         capacity = h.capacity;
         active = h.active;
         images = h.images;
@@ -117,11 +119,11 @@ module _ (fields : FieldsAreRead) (tiles : Tiles) (p : Sending) (meta : Meta) (i
   abbrev pub block_reply : ℕ → Reply
   block_reply b = ByBlob (BlockStatus 0 b p.chunk All)
 
-  there : (b n : ℕ) → nat_le (length (held_of b (suc n))) b ≡ false
+  pub there : (b n : ℕ) → nat_le (length (held_of b (suc n))) b ≡ false
   there b n = let h = places blk b 0 (suc n) in grind (arith, nat_tests, h)
 
   module _ (b n c : ℕ) (total : chunk_total p b ≡ suc c) (j : ℕ) (x : Pair) (w : BlockW b n j x) where
-    begins_block : Does (asks x.n u (block_request b) x.moment)
+    pub begins_block : Does (asks x.n u (block_request b) x.moment)
         (running p meta image w.1.1.capacity w.1.1.active w.1.1.images w.1.1.offer u 0 0 (held_of b (suc n)) (Some (current_in p meta image w.1.1.capacity w.1.1.active w.1.1.images w.1.1.offer u 0 0 b (empty (suc c)))) w.1.0 w.1.1.count w.1.1.fresh x.moment x.moment)
         ((u, block_reply b) ∷ [])
     begins_block =
@@ -130,11 +132,12 @@ module _ (fields : FieldsAreRead) (tiles : Tiles) (p : Sending) (meta : Meta) (i
         ((u, block_reply b) ∷ [])) (sym w.1.1.n_is)
         (running_block p meta image w.1.1.capacity w.1.1.active w.1.1.images w.1.1.offer u 0 0 (held_of b (suc n)) w.1.0 w.1.1.count w.1.1.fresh w.1.1.heard x.moment b c total (not_full blk b 0 n) (there b n) (at_next blk b 0 n))
 
-    pub block_answered : BlockD b n c j (answered_by (view p meta (Block b)) u x (asks x.n u (block_request b) x.moment))
-    block_answered = (
+    pub block_answered : (p.mode == 2) ≡ false → BlockD b n c j (answered_by (view p meta (Block b)) u x (asks x.n u (block_request b) x.moment))
+    block_answered no_pull = (
       row_answered (view p meta (Block b)) u x (block_request b) _ (block_reply b) 2 2 (lacking_from b (suc n)) w.0.0 (lacking_from b (suc n)) (every_number (suc c)) begins_block w.0.1
           (told_block p meta x.config.address b c (lacking_from b (suc n)) w.0.0 total),
       record {
+        no_pull = no_pull;
         capacity = w.1.1.capacity;
         active = w.1.1.active;
         images = w.1.1.images;
@@ -154,17 +157,22 @@ module _ (fields : FieldsAreRead) (tiles : Tiles) (p : Sending) (meta : Meta) (i
       let e : suc (a + j) ≡ a + suc j = omega arith in
       ((h.0, subst (λ n. Runs fields p meta image u blocks good most few held h.0 n (pair_time v u x)) e t.0), t.1)
 
-  pub block_asking : (b n c : ℕ) → chunk_total p b ≡ suc c → Asking p meta u (Block b) (block_request b) (BlockW b n) (BlockD b n c) most
-  block_asking b n c total = record {
+  -- while it waits
+  pub block_waits : (b n j : ℕ) (x : Pair) → j < most → BlockW b n j x → BlockW b n (suc j) (pair_time (view p meta (Block b)) u x) × ((pair_time (view p meta (Block b)) u x).r ≡ x.r)
+  block_waits b n j x lt w =
+      let t = run_later (view p meta (Block b)) x (held_of b (suc n)) most j (not_full blk b 0 n) (omega (arith, lt, few)) w.1 in
+      (((w.0.0, row_later fields p meta image u blocks good most few (view p meta (Block b)) x 2 (lacking_from b (suc n)) w.0.0 true t.1 w.0.1), t.0), t.1)
+
+  pub block_asking : (p.mode == 2) ≡ false → (b n c : ℕ) → chunk_total p b ≡ suc c → Asking p meta u (Block b) (block_request b) (BlockW b n) (BlockD b n c) most
+  block_asking no_pull b n c total = record {
     waits = λ j x w. row_pending fields p meta image u blocks good most few 2 (lacking_from b (suc n)) w.0.0 true x w.0.1;
     is_done = λ j x w. row_pending fields p meta image u blocks good most few 2 (lacking_from b (suc n)) (every_number (suc c)) false x w.0;
     place = λ j x w. row_place 2 (lacking_from b (suc n)) w.0.0 true x w.0.1;
     message = λ j x w. refl;
-    time_waits = λ j x lt w. (let t = run_later (view p meta (Block b)) x (held_of b (suc n)) most j (not_full blk b 0 n) (omega (arith, lt, few)) w.1 in
-        (((w.0.0, row_later fields p meta image u blocks good most few (view p meta (Block b)) x 2 (lacking_from b (suc n)) w.0.0 true t.1 w.0.1), t.0), t.1));
+    time_waits = λ j x lt w. block_waits b n j x lt w;
     time_done = λ j x lt w. (let t = in_block_later (view p meta (Block b)) x b n 0 (suc c) j (omega (arith, lt, few)) w.1 in
         ((row_later fields p meta image u blocks good most few (view p meta (Block b)) x 2 (lacking_from b (suc n)) (every_number (suc c)) false t.1 w.0, t.0), t.1));
-    asked = λ j x w. block_answered b n c total (suc j) x w;
+    asked = λ j x w. block_answered b n c total (suc j) x w no_pull;
     counts = λ c. refl;
   }
 
@@ -267,6 +275,7 @@ module _ (fields : FieldsAreRead) (tiles : Tiles) (p : Sending) (meta : Meta) (i
 
   in_block_longer : (b n k rem a c : ℕ) (x : Pair) → a ≤ c → InBlock b n k rem a x → InBlock b n k rem c x
   in_block_longer b n k rem a c x le h = record {
+    no_pull = h.no_pull;
     capacity = h.capacity;
     active = h.active;
     images = h.images;
@@ -287,10 +296,10 @@ module _ (fields : FieldsAreRead) (tiles : Tiles) (p : Sending) (meta : Meta) (i
   chunk_request b k = OfBlob (ChunkTransfer k (chk b k))
 
   -- the octets are that chunk's
-  long_is : (b k : ℕ) → length (chk b k) ≡ chunk_length (block_length p.size p.log b) p.chunk k
+  pub long_is : (b k : ℕ) → length (chk b k) ≡ chunk_length (block_length p.size p.log b) p.chunk k
   long_is b k = tiles.chunk_long (block_of image p.log b) p.chunk k ∙ ap (λ m. chunk_length m p.chunk k) (tiles.block_long image p.log b ∙ ap (λ m. block_length m p.log b) whole)
 
-  below_places : (b k rem : ℕ) → nat_le (length (got_of b k (suc rem))) k ≡ false
+  pub below_places : (b k rem : ℕ) → nat_le (length (got_of b k (suc rem))) k ≡ false
   below_places b k rem = let h = places (chk b) k 0 (suc rem) in grind (arith, nat_tests, h)
 
   -- all chunks joined are the block
@@ -315,6 +324,7 @@ module _ (fields : FieldsAreRead) (tiles : Tiles) (p : Sending) (meta : Meta) (i
 
       pub one_more : InBlock b n (suc k) (suc rem) 0 (answered_by (view p meta (Chunks b)) u x (asks x.n u (chunk_request b k) x.moment))
       one_more = record {
+        no_pull = h.no_pull;
         capacity = h.capacity;
         active = h.active;
         images = h.images;
@@ -335,7 +345,7 @@ module _ (fields : FieldsAreRead) (tiles : Tiles) (p : Sending) (meta : Meta) (i
           subst (λ s. Does (asks s u (chunk_request b k) x.moment)
           (running p meta image h.capacity h.active h.images h.offer u 0 0 (put (held_of b (suc n)) b (joined (put (got_of b k 1) k (chk b k)))) None (Some (last_in p meta image h.capacity h.active h.images h.offer u 0 0 b)) h.count h.fresh x.moment x.moment) []) (sym h.n_is)
           (chunk_last p meta image h.capacity h.active h.images h.offer u 0 0 (held_of b (suc n)) h.last h.count h.fresh h.heard x.moment b (got_of b k 1) k (chk b k)
-          good.no_pull (not_full blk b 0 n) (below_places b k 0) (eq-eqb _ _ (long_is b k)) (at_next (chk b) k 0 0)
+          h.no_pull (not_full blk b 0 n) (below_places b k 0) (eq-eqb _ _ (long_is b k)) (at_next (chk b) k 0 0)
           (ap is_full (put_here (chk b) k 0) ∙ full (chk b) (suc k) 0))
 
       now_held : put (held_of b (suc n)) b (joined (put (got_of b k 1) k (chk b k))) ≡ held_of (suc b) n

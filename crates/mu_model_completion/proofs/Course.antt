@@ -17,7 +17,7 @@ use Rattle.mu_model_completion.proofs.Pairs.{Pair, receiver_in}
 use Rattle.mu_model_completion.proofs.Receivers.{rcv}
 use Rattle.mu_model_completion.proofs.Stations.{Within, and_then, so, client_at, Station, begins, leads_on, leads_first}
 use Rattle.mu_model_completion.proofs.Asking.{Asking, Apart, configs, Finished, whole_step}
-use Rattle.mu_model_completion.proofs.First.{Good, Row, Idle, Taken, CheckW, CheckD, StartW, StartD, InformationW, InformationD, TransferW, TransferD, check_request, start_request, transfer_request, check_asking, start_asking, information_asking, transfer_asking, taken_longer}
+use Rattle.mu_model_completion.proofs.First.{Good, Row, Rested, Idle, Taken, CheckW, CheckD, StartW, StartD, InformationW, InformationD, TransferW, TransferD, check_request, start_request, transfer_request, check_asking, start_asking, information_asking, transfer_asking, taken_longer}
 use Rattle.mu_model_completion.proofs.Blocks.{Tiles}
 
 module _ (laws : KeepsPlan) (fields : FieldsAreRead) (tiles : Tiles) (p : Sending) (meta : Meta) (config : NodeConfig) (image : List ℕ) (blocks : ℕ) (good : Good p blocks)
@@ -78,10 +78,6 @@ module _ (laws : KeepsPlan) (fields : FieldsAreRead) (tiles : Tiles) (p : Sendin
   some_active P f [] h le = absurd (omega (arith, le))
   some_active P f (x ∷ ps) h le = ap (λ b. b || list_any is_active (map receiver_in ps)) (f x h.0)
 
-  -- a row is active, and pending or not
-  abbrev RowIs : (ℕ → Pair → Type 0) → Bool → Type 0
-  RowIs D pending = (x : Pair) → Answered D x → (x.r.pending ≡ pending) × (is_active x.r ≡ true)
-
   pub row_is : (phase : ℕ) (bs chunks : List Bool) (pending : Bool) (x : Pair) → Row phase bs chunks pending x → (x.r.pending ≡ pending) × (is_active x.r ≡ true)
   row_is phase bs chunks pending x h = (ap (λ (r : Receiver). r.pending) h.r_is, ap is_active h.r_is)
 
@@ -92,6 +88,10 @@ module _ (laws : KeepsPlan) (fields : FieldsAreRead) (tiles : Tiles) (p : Sendin
   pub row_begun : (step : Step) (phase : ℕ) (bs chunks : List Bool) (x : Pair) → Row phase bs chunks false x
       → is_in step (rcv x.config.address phase bs chunks false) ≡ true → Row phase bs chunks true (begins laws p meta config image step x)
   row_begun step phase bs chunks x h e = row_begun_by false step phase bs chunks x h e
+
+  pub rested_begun : (step : Step) (phase : ℕ) (bs chunks : List Bool) (x : Pair) → Rested phase bs chunks x
+      → ((heard : Bool) → is_in step (record (rcv x.config.address phase bs chunks false) { heard = heard }) ≡ true) → Row phase bs chunks true (begins laws p meta config image step x)
+  rested_begun step phase bs chunks x h e = record { r_is = ap (d.begun step) h.r_is ∙ ap (d.begun_if (record (rcv x.config.address phase bs chunks false) { heard = h.heard })) (e h.heard) }
 
   -- a step that is done leads to the next one
   pub next_leads : (last next : Step) (P : Pair → Type 0) → ((x : Pair) → P x → (x.r.pending ≡ false) × (is_active x.r ≡ true))
@@ -135,19 +135,19 @@ module _ (laws : KeepsPlan) (fields : FieldsAreRead) (tiles : Tiles) (p : Sendin
       (check_asking fields p meta image u blocks good q few) (λ rs. refl) (λ x h. (row_begun Check 10 [] [] x h.0 refl, idle_at Check x h.1))
       (λ ps h le. leads_first laws p meta config image Check ps (some_active First (λ x k. (row_is 10 [] [] false x k.0).1) ps h le)) xs r
 
-  abbrev StartDone : Pair → Type 0
+  abbrev pub StartDone : Pair → Type 0
   StartDone x = Answered (StartD fields p meta image u blocks good q few) x
 
-  started : (xs : List Member) → Reached (At Check) CheckDone xs → Within q (Reached (At Start) StartDone) xs
+  pub started : (xs : List Member) → Reached (At Check) CheckDone xs → Within q (Reached (At Start) StartDone) xs
   started xs r =
       go_step (At Check) CheckDone Start (start_request fields p meta image u blocks good q few) (StartW fields p meta image u blocks good q few) (StartD fields p meta image u blocks good q few)
       (start_asking fields p meta image u blocks good q few) (λ rs. refl) (λ x h. (row_begun Start 10 [] [] x h.2.0 refl, idle_at Start x h.2.1))
       (next_leads Check Start CheckDone (λ x k. row_is 10 [] [] false x k.2.0) (λ c. refl) (λ rs. refl) (λ ps h le. refl)) xs r
 
-  abbrev InformationDone : Pair → Type 0
+  abbrev pub InformationDone : Pair → Type 0
   InformationDone x = Answered (InformationD fields p meta image u blocks good q few) x
 
-  informed : (xs : List Member) → Reached (At Start) StartDone xs → Within q (Reached (At Information) InformationDone) xs
+  pub informed : (xs : List Member) → Reached (At Start) StartDone xs → Within q (Reached (At Information) InformationDone) xs
   informed xs r =
       go_step (At Start) StartDone Information (OfBlob BlobInformationGet) (InformationW fields p meta image u blocks good q few) (InformationD fields p meta image u blocks good q few)
       (information_asking fields p meta image u blocks good q few) (λ rs. refl)
@@ -157,7 +157,7 @@ module _ (laws : KeepsPlan) (fields : FieldsAreRead) (tiles : Tiles) (p : Sendin
   abbrev pub TransferDone : Pair → Type 0
   TransferDone x = Answered (TransferD fields p meta image u blocks good q few) x
 
-  transferred : (xs : List Member) → Reached (At Information) InformationDone xs → Within q (Reached (At Transfer) TransferDone) xs
+  pub transferred : (xs : List Member) → Reached (At Information) InformationDone xs → Within q (Reached (At Transfer) TransferDone) xs
   transferred xs r =
       go_step (At Information) InformationDone Transfer (transfer_request fields p meta image u blocks good q few) (TransferW fields p meta image u blocks good q few) (TransferD fields p meta image u blocks good q few)
       (transfer_asking fields p meta image u blocks good q few) (λ rs. refl)

@@ -1,6 +1,6 @@
--- The end of an update in push: verifying, applying, confirming, and all turns after it.
-use Rattle.std.proofs.Common.{◌≡◌, ◌⊎◌, inl, inr, ◌<◌, ◌≤◌, ◌+◌, ◌*◌, ℕ, zero, suc, List, [], ◌∷◌, refl, ap, ◌∙◌, subst, true, false, Bool, Option, Some, arith, map, max, length, take, drop}
-use Rattle.std.specs.Prelude.{◌||◌, not, if◌then◌else◌}
+-- The end of an update: verifying, applying, confirming, and all turns after it.
+use Rattle.std.proofs.Common.{◌≡◌, ◌⊎◌, inl, inr, ◌<◌, ◌≤◌, ◌+◌, ◌*◌, ℕ, zero, suc, List, [], ◌∷◌, refl, ap, ◌∙◌, subst, true, false, Bool, Option, Some, arith, map, max, length}
+use Rattle.std.specs.Prelude.{◌||◌, not}
 use Rattle.std.specs.List.{list_any, AllByRecursion}
 use Rattle.mu_model_image.specs.declared.Meta.{Meta}
 use Rattle.mu_model_wire.specs.Reports.{no_number}
@@ -10,30 +10,24 @@ use Rattle.mu_model_node.specs.NodeMessages.{OfUpdate}
 use Rattle.mu_model_node.specs.UpdateMessages.{UpdateGet, UpdateApply, InformationGet}
 use Rattle.mu_model_node.specs.Slots.{Slots, is_full, joined}
 use Rattle.mu_model_client.specs.declared.Sending.{Sending}
-use Rattle.mu_model_client.specs.Client.{Client, Receiver, is_active, misses_chunks, misses_block, Update, Place, Before, At, Ended, Applying, Step, Check, Transfer, Chunks, Get, Verify, Apply, Confirm, block_total, chunk_total}
+use Rattle.mu_model_client.specs.Client.{Client, Receiver, is_active, misses_chunks, misses_block, Update, Place, Before, At, Ended, Applying, Step, Check, Transfer, Verify, Apply, Confirm, block_total}
 use Rattle.mu_model_client.specs.Due as d
 use Rattle.mu_model_client.specs.Due.{Due, due, Go}
 use Rattle.mu_model_client_laws.specs.Laws.{KeepsPlan, FieldsAreRead}
 use Rattle.mu_model_completion.specs.Turn.{Member, turn, settle}
 use Rattle.mu_model_completion.proofs.Pairs.{Pair, receiver_in, pair_time, turned}
 use Rattle.mu_model_completion.proofs.Receivers.{none_some}
-use Rattle.mu_model_completion.proofs.Stations.{Within, and_then, so, client_at, Station, begins, first_items, turn_in}
+use Rattle.mu_model_completion.proofs.Stations.{Within, and_then, so, client_at, Station, begins}
 use Rattle.mu_model_completion.proofs.Asking.{Apart, configs}
 use Rattle.mu_model_completion.proofs.First.{Good, Row, Runs, TransferD}
 use Rattle.mu_model_completion.proofs.Pieces.{lacking_from, none_missed, find_none, full}
 use Rattle.mu_model_completion.proofs.Blocks.{Tiles, held_of, last_of, blk, IsVerified, Sealing, image_joined}
 use Rattle.mu_model_completion.proofs.Last.{VerifyW, VerifyD, verify_asking, IsActive, Applies, ApplyW, ApplyD, apply_asking, ConfirmW, ConfirmD, confirm_asking, applies_later}
-use Rattle.mu_model_completion.proofs.Chunked.{Beginning, ChunksSent}
-use Rattle.mu_model_completion.proofs.Course.{Reached, Answered, go_step, next_leads, row_is, row_begun, First, four, nobody_pending}
-use Rattle.mu_model_completion.proofs.Middle.{AllHeld, Ended_blocks, all_blocks, first_between, reached_as}
+use Rattle.mu_model_completion.proofs.Course.{Reached, Answered, go_step, next_leads, row_is, row_begun, rested_begun, First, four, nobody_pending}
+use Rattle.mu_model_completion.proofs.Middle.{EndsBlock, Between, AllHeld, Ended_blocks, first_between, after_is, counts_done, reached_as}
 
 module _ (laws : KeepsPlan) (fields : FieldsAreRead) (tiles : Tiles) (p : Sending) (meta : Meta) (config : NodeConfig) (image : List ℕ) (blocks : ℕ) (good : Good p blocks)
-    (whole : length image ≡ p.size) (chunk_some : 0 < p.chunk) (cs : List NodeConfig) (apart : Apart cs) (some : 1 ≤ length cs) (q : ℕ) (few : 4 * q < 99) (fits : length cs ≤ 16 * q) (q_some : 1 ≤ q)
-    (mc : ℕ) (counts : (b : ℕ) → b < suc blocks → (c : ℕ) × (chunk_total p b ≡ suc c))
-    (sends : (b n c : ℕ) (total : chunk_total p b ≡ suc c) → b + suc n ≡ suc blocks → (bs : List Pair) (ys : List Member)
-    → Station laws p meta config image (At (Chunks b)) (drop 16 (first_items laws p meta config image (Chunks b) bs)) (map (turn_in laws p meta config image (Chunks b) (take 16 (first_items laws p meta config image (Chunks b) bs))) bs) ys
-    → AllByRecursion (Beginning laws fields tiles p meta config image blocks good q few whole chunk_some b n c total) bs → configs bs ≡ cs
-    → Within mc (ChunksSent laws fields tiles p meta config image blocks good q few whole chunk_some b n c total cs) ys) where
+    (whole : length image ≡ p.size) (chunk_some : 0 < p.chunk) (cs : List NodeConfig) (apart : Apart cs) (some : 1 ≤ length cs) (q : ℕ) (few : 4 * q < 99) (fits : length cs ≤ 16 * q) (q_some : 1 ≤ q) where
   abbrev u : ℕ
   u = config.address
 
@@ -65,13 +59,13 @@ module _ (laws : KeepsPlan) (fields : FieldsAreRead) (tiles : Tiles) (p : Sendin
     abbrev VW : ℕ → Pair → Type 0
     VW j x = VerifyW fields tiles p meta image u blocks good q few whole chunk_some held last all_full all_is none chunks j x
 
-    abbrev VD : ℕ → Pair → Type 0
+    abbrev pub VD : ℕ → Pair → Type 0
     VD j x = VerifyD fields tiles p meta image u blocks good q few whole chunk_some held last all_full all_is none chunks j x
 
     abbrev AW : ℕ → Pair → Type 0
     AW j x = ApplyW fields tiles p meta image u blocks good q few whole chunk_some held last all_full all_is none chunks j x
 
-    abbrev AD : ℕ → Pair → Type 0
+    abbrev pub AD : ℕ → Pair → Type 0
     AD j x = ApplyD fields tiles p meta image u blocks good q few whole chunk_some held last all_full all_is none chunks j x
 
     abbrev CW : ℕ → Pair → Type 0
@@ -98,8 +92,8 @@ module _ (laws : KeepsPlan) (fields : FieldsAreRead) (tiles : Tiles) (p : Sendin
     applies_at step x (inl h) = inl (record { capacity = h.capacity; active = h.active; images = h.images; offer = h.offer; count = h.count; fresh = h.fresh; heard = h.heard; n_is = h.n_is })
     applies_at step x (inr h) = inr (record { capacity = h.capacity; images = h.images; count = h.count; fresh = h.fresh; session = h.session; n_is = h.n_is })
 
-    abbrev Held : Pair → Type 0
-    Held x = AllHeld laws fields tiles p meta config image blocks good whole chunk_some cs apart some q few fits q_some mc counts sends c x
+    abbrev pub Held : Pair → Type 0
+    Held x = AllHeld laws fields tiles p meta config image blocks good whole chunk_some cs apart some q few fits q_some c x
 
     -- ---- 8
 
@@ -111,25 +105,25 @@ module _ (laws : KeepsPlan) (fields : FieldsAreRead) (tiles : Tiles) (p : Sendin
     no_chunks [] h = refl
     no_chunks (x ∷ ps) h = ap (λ b. b || list_any misses_chunks (map receiver_in ps)) (ap misses_chunks h.0.row.r_is ∙ none_some (suc c)) ∙ no_chunks ps h.1
 
-    to_verify : (b : ℕ) (ps : List Pair) → AllByRecursion Held ps → d.after p (Update meta true) (map receiver_in ps) (Get b) ≡ Go Verify
-    to_verify b ps h =
+    to_verify : (s : Step) → EndsBlock s → (ps : List Pair) → AllByRecursion Held ps → d.after p (Update meta true) (map receiver_in ps) s ≡ Go Verify
+    to_verify s e ps h =
         let t : ℕ → Bool = d.is_missed (map receiver_in ps) in
-        ap (λ z. if z then Go (Chunks b) else d.next_block p (Update meta true) (map receiver_in ps)) (no_chunks ps h)
+        after_is laws fields tiles p meta config image blocks good whole chunk_some cs apart some q few fits q_some s e (map receiver_in ps) (no_chunks ps h)
         ∙ ap (d.block_or (Go Verify)) (find_none t (block_total p) 0 (λ k. no_block ps h k))
 
     held_is : (x : Pair) → Held x → (x.r.pending ≡ false) × (is_active x.r ≡ true)
     held_is x h = (ap (λ (r : Receiver). r.pending) h.row.r_is, ap is_active h.row.r_is)
 
-    verified : (b : ℕ) (xs : List Member) → At_ (At (Get b)) Held xs → Within q (At_ (At Verify) (Done VD)) xs
-    verified b xs r =
-        go_step laws fields tiles p meta config image blocks good whole chunk_some cs apart some q few fits q_some (At (Get b)) Held Verify (OfUpdate UpdateGet) VW VD
+    pub verified : (s : Step) → EndsBlock s → (xs : List Member) → At_ (At s) Held xs → Within q (At_ (At Verify) (Done VD)) xs
+    verified s e xs r =
+        go_step laws fields tiles p meta config image blocks good whole chunk_some cs apart some q few fits q_some (At s) Held Verify (OfUpdate UpdateGet) VW VD
         (verify_asking fields tiles p meta image u blocks good q few whole chunk_some held last all_full all_is none chunks) (λ rs. refl)
-        (λ x h. (row_begun laws fields tiles p meta config image blocks good whole chunk_some cs apart some q few fits q_some Verify 2 none chunks x h.row refl, sealing_at Verify h.j x h.sealing))
-        (next_leads laws fields tiles p meta config image blocks good whole chunk_some cs apart some q few fits q_some (Get b) Verify Held held_is (λ z. refl) (λ rs. refl) (λ ps h le. to_verify b ps h)) xs r
+        (λ x h. (rested_begun laws fields tiles p meta config image blocks good whole chunk_some cs apart some q few fits q_some Verify 2 none chunks x h.row (λ heard. refl), sealing_at Verify h.j x h.sealing))
+        (next_leads laws fields tiles p meta config image blocks good whole chunk_some cs apart some q few fits q_some s Verify Held held_is (counts_done laws fields tiles p meta config image blocks good whole chunk_some cs apart some q few fits q_some s e) (λ rs. refl) (λ ps h le. to_verify s e ps h)) xs r
 
     -- ---- 9
 
-    applied : (xs : List Member) → At_ (At Verify) (Done VD) xs → Within q (At_ (At Apply) (Done AD)) xs
+    pub applied : (xs : List Member) → At_ (At Verify) (Done VD) xs → Within q (At_ (At Apply) (Done AD)) xs
     applied xs r =
         go_step laws fields tiles p meta config image blocks good whole chunk_some cs apart some q few fits q_some (At Verify) (Done VD) Apply (OfUpdate UpdateApply) AW AD
         (apply_asking fields tiles p meta image u blocks good q few whole chunk_some held last all_full all_is none chunks) (λ rs. refl)
@@ -151,12 +145,12 @@ module _ (laws : KeepsPlan) (fields : FieldsAreRead) (tiles : Tiles) (p : Sendin
     Final x = Row 8 none chunks false x × IsActive fields tiles p meta image u blocks good q few whole chunk_some held last all_full all_is none chunks x
 
     -- from the last block on
-    last_steps : (b : ℕ) (xs : List Member) → At_ (At (Get b)) Held xs → Within (q + (q + q)) (At_ (At Confirm) Final) xs
-    last_steps b xs r =
-        and_then q (q + q) (At_ (At Verify) (Done VD)) (At_ (At Confirm) Final) xs (verified b xs r)
+    pub last_steps : (s : Step) → EndsBlock s → (xs : List Member) → At_ (At s) Held xs → Within (q + (q + q)) (At_ (At Confirm) Final) xs
+    last_steps s e xs r =
+        and_then q (q + q) (At_ (At Verify) (Done VD)) (At_ (At Confirm) Final) xs (verified s e xs r)
         (λ ys s. and_then q q (At_ (At Apply) (Done AD)) (At_ (At Confirm) Final) ys (applied ys s)
         (λ zs t. so q (At_ (At Confirm) (Done CD)) (At_ (At Confirm) Final) zs
-        (reached_as laws fields tiles p meta config image blocks good whole chunk_some cs apart some q few fits q_some mc counts sends (At Confirm) (Done CD) Final (λ x h. h.2)) (confirmed zs t)))
+        (reached_as laws fields tiles p meta config image blocks good whole chunk_some cs apart some q few fits q_some (At Confirm) (Done CD) Final (λ x h. h.2)) (confirmed zs t)))
 
     -- ---- and from then on
 
@@ -235,18 +229,19 @@ module _ (laws : KeepsPlan) (fields : FieldsAreRead) (tiles : Tiles) (p : Sendin
   pub some_always : (n : ℕ) (xs : List Member) → SomeOver xs → SomeOver (settle n xs)
   some_always n xs o = record { c = o.c; over = over_always o.c n xs o.over }
 
-  -- turns: four steps, the blocks, and three steps
-  abbrev pub turns_in_all : ℕ
-  turns_in_all = (q + (q + (q + q))) + (suc blocks * (q + (suc mc + q)) + (q + (q + q)))
-
-  pub course : (xs : List Member) → At_ (Before Check) (First laws fields tiles p meta config image blocks good whole chunk_some cs apart some q few fits q_some) xs → Within turns_in_all SomeOver xs
-  course xs r =
-      and_then (q + (q + (q + q))) (suc blocks * (q + (suc mc + q)) + (q + (q + q))) (At_ (At Transfer) (Done (TransferD fields p meta image u blocks good q few))) SomeOver xs
+  -- four steps, the blocks, and three steps
+  pub course : (n : ℕ)
+      → ((ys : List Member) → At_ (At Transfer) (Between laws fields tiles p meta config image blocks good whole chunk_some cs apart some q few fits q_some 0 (suc blocks)) ys
+      → Within n (Ended_blocks laws fields tiles p meta config image blocks good whole chunk_some cs apart some q few fits q_some) ys)
+      → (xs : List Member) → At_ (Before Check) (First laws fields tiles p meta config image blocks good whole chunk_some cs apart some q few fits q_some) xs
+      → Within ((q + (q + (q + q))) + (n + (q + (q + q)))) SomeOver xs
+  course n through xs r =
+      and_then (q + (q + (q + q))) (n + (q + (q + q))) (At_ (At Transfer) (Done (TransferD fields p meta image u blocks good q few))) SomeOver xs
       (four laws fields tiles p meta config image blocks good whole chunk_some cs apart some q few fits q_some xs r)
-      (λ ys s. and_then (suc blocks * (q + (suc mc + q))) (q + (q + q)) (Ended_blocks laws fields tiles p meta config image blocks good whole chunk_some cs apart some q few fits q_some mc counts sends) SomeOver ys
-      (all_blocks laws fields tiles p meta config image blocks good whole chunk_some cs apart some q few fits q_some mc counts sends blocks 0 Transfer tt (omega arith) ys
-      (reached_as laws fields tiles p meta config image blocks good whole chunk_some cs apart some q few fits q_some mc counts sends (At Transfer) _ _
-      (first_between laws fields tiles p meta config image blocks good whole chunk_some cs apart some q few fits q_some mc counts sends) ys s))
+      (λ ys s. and_then n (q + (q + q)) (Ended_blocks laws fields tiles p meta config image blocks good whole chunk_some cs apart some q few fits q_some) SomeOver ys
+      (through ys
+      (reached_as laws fields tiles p meta config image blocks good whole chunk_some cs apart some q few fits q_some (At Transfer) _ _
+      (first_between laws fields tiles p meta config image blocks good whole chunk_some cs apart some q few fits q_some) ys s))
       (λ zs t. so (q + (q + q)) (At_ (At Confirm) (Final t.c)) SomeOver zs
       (λ ws o. record { c = t.c; over = record { place = At Confirm; at_end = inl refl; qs = o.qs; station = o.station; all = o.all; same = o.same } })
-      (last_steps t.c t.b zs t.held_all)))
+      (last_steps t.c t.step t.ends zs t.held_all)))

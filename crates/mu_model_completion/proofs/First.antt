@@ -42,6 +42,14 @@ module _ (v : Client) (u : ℕ) (x : Pair) where
 pub record Row (phase : ℕ) (blocks chunks : List Bool) (pending : Bool) (x : Pair) : Type 0 where
   pub r_is : x.r ≡ rcv x.config.address phase blocks chunks pending
 
+-- one that has answered; in pull it may have been heard
+pub record Rested (phase : ℕ) (blocks chunks : List Bool) (x : Pair) : Type 0 where
+  pub heard : Bool
+  pub r_is : x.r ≡ record (rcv x.config.address phase blocks chunks false) { heard = heard }
+
+pub rests : (phase : ℕ) (blocks chunks : List Bool) (x : Pair) → Row phase blocks chunks false x → Rested phase blocks chunks x
+rests phase blocks chunks x h = record { heard = false; r_is = h.r_is }
+
 pub row_place : (phase : ℕ) (blocks chunks : List Bool) (pending : Bool) (x : Pair) → Row phase blocks chunks pending x → x.r.row.address ≡ x.config.address
 row_place phase blocks chunks pending x h = ap (λ (r : Receiver). r.row.address) h.r_is
 
@@ -58,10 +66,18 @@ row_answered v u x request next reply phase later bs cs bs1 cs1 does row told = 
 pub in_time : (p : Sending) (m h a : ℕ) → m ≤ h + 100 * a → a < 99 → m + 100 < h + 10000 * (p.base + 1)
 in_time p m h a le few = omega (arith, le, few)
 
--- a plan in push, in its ranges
-pub record Good (p : Sending) (blocks : ℕ) : Type 0 where
+-- a plan in push
+pub record Pushes (p : Sending) : Type 0 where
   pub push : (p.mode == 1) ≡ true
   pub no_pull : (p.mode == 2) ≡ false
+
+-- and in pull
+pub record Pulls (p : Sending) : Type 0 where
+  pub no_push : (p.mode == 1) ≡ false
+  pub pull : (p.mode == 2) ≡ true
+
+-- a plan in its ranges
+pub record Good (p : Sending) (blocks : ℕ) : Type 0 where
   pub long : (nat_lt 376 p.chunk || nat_lt 2048 (full_chunks p)) ≡ false
   pub total : block_total p ≡ suc blocks
 
@@ -321,7 +337,7 @@ module _ (fields : FieldsAreRead) (p : Sending) (meta : Meta) (image : List ℕ)
     pub information_answered : InformationD j (answered_by (view p meta Information) u x (asks x.n u (OfBlob BlobInformationGet) x.moment))
     information_answered = (
       row_answered (view p meta Information) u x (OfBlob BlobInformationGet) _ (ByBlob (BlobInformationStatus w.1.capacity)) 2 2 [] [] [] [] informs w.0
-          (told_information p meta x.config.address [] [] w.1.capacity room w.1.offer.log good.long good.push),
+          (told_information p meta x.config.address [] [] w.1.capacity room w.1.offer.log good.long),
       record {
         capacity = w.1.capacity;
         active = w.1.active;

@@ -1,6 +1,6 @@
 -- A receiver along an update in which nothing is lost: what the answers of its node make of it.
 use Rattle.std.proofs.Common.{◌≡◌, ◌<◌, ◌-◌, ◌*◌, ◌==◌, ℕ, zero, suc, List, [], ◌∷◌, refl, sym, ap, ◌∙◌, true, false, Bool, Some, arith, map, length, set, cond, ◌/◌}
-use Rattle.std.specs.Prelude.{◌||◌, nat_lt, nat_le, bytes_eq}
+use Rattle.std.specs.Prelude.{◌||◌, nat_lt, nat_le, bytes_eq, if◌then◌else◌}
 use Rattle.std.proofs.lemmas.Bool.{eq-eqb}
 use Rattle.std.proofs.lemmas.Bool.Decides.{nat_tests}
 use Rattle.std.proofs.lemmas.Slice.Eq.{bytes_eq-Decides}
@@ -84,9 +84,13 @@ module _ (p : Sending) (meta : Meta) where
   told_start a blocks chunks = rw (same p.id) refl
 
   pub told_information : (a : ℕ) (blocks chunks : List Bool) (capacity : ℕ) → nat_lt capacity p.size ≡ false → (nat_lt p.log 12 || nat_lt 14 p.log) ≡ false
-      → (nat_lt 376 p.chunk || nat_lt 2048 (full_chunks p)) ≡ false → (p.mode == 1) ≡ true
+      → (nat_lt 376 p.chunk || nat_lt 2048 (full_chunks p)) ≡ false
       → t.receiver_told (view Information) (heard (ByBlob (BlobInformationStatus capacity))) (rcv a 2 blocks chunks true) ≡ rcv a 2 blocks chunks false
-  told_information a blocks chunks capacity room log long push = rw (room, log, long, push) refl
+  told_information a blocks chunks capacity room log long = rw (room, log, long, takes_both (p.mode == 1)) refl
+    where
+      takes_both : (push : Bool) → (if push then true else true) ≡ true
+      takes_both true = refl
+      takes_both false = refl
 
   pub told_transfer : FieldsAreRead → (a n : ℕ) (blocks chunks : List Bool) → block_total p ≡ n
       → t.receiver_told (view Transfer) (heard (ByBlob (TransferStatus 0 p.mode 2 (Some p.id) (Some (parameters p meta)) (missing (empty n))))) (rcv a 2 blocks chunks true)

@@ -1,13 +1,15 @@
 -- Three receivers and 64 KiB.
-use Rattle.std.proofs.Common.{◌≡◌, ◌⊎◌, inl, inr, ◌<◌, ◌≤◌, ◌^◌, ℕ, List, [], ◌∷◌, refl, sym, subst, true, false, Some, arith, length}
+use Rattle.std.proofs.Common.{◌≡◌, ap, ◌⊎◌, inl, inr, ◌<◌, ◌≤◌, ◌^◌, ℕ, List, [], ◌∷◌, refl, sym, subst, true, false, arith, length}
+use Rattle.mu_model_image.specs.Pieces.{block_length, chunk_count}
+use Rattle.mu_model_client.specs.Client.{chunk_total}
 use Rattle.mu_model_image.specs.Laws.{MetaIsReadBack, FitIsTested, ImagesFit, ImagesHaveMetadata}
 use Rattle.mu_model_node.specs.Worked.{image_a}
 use Rattle.mu_model_node.specs.NodeState.{restarted, new_node}
 use Rattle.mu_model_client_laws.specs.Laws.{KeepsPlan, FieldsAreRead}
-use Rattle.mu_model_completion.specs.Turn.{settle}
-use Rattle.mu_model_completion.specs.Completion.{IsUpdate, Takes, CanBegin, rows_at, succeeded, plan_64, members_64, push_turns}
+use Rattle.mu_model_completion.specs.Completion.{IsUpdate, Takes, CanBegin, AllFull, After70And71, plan_64, members_64, push_turns}
 use Rattle.mu_model_completion.proofs.Blocks.{Tiles}
 use Rattle.mu_model_completion.proofs.Theorem.{push_completes}
+use Rattle.mu_model_completion.proofs.Sharp.{takes_all}
 
 module _ (laws : KeepsPlan) (fields : FieldsAreRead) (tiles : Tiles) (read : MetaIsReadBack) (tested : FitIsTested) (fit : ImagesFit) (metas : ImagesHaveMetadata) (version : ℕ) (image : List ℕ) (newer : 1 < version) (small : version < 2 ^ 32) (long : length image ≡ 65536) where
   update : IsUpdate (plan_64 version image) image
@@ -29,15 +31,17 @@ module _ (laws : KeepsPlan) (fields : FieldsAreRead) (tiles : Tiles) (read : Met
     state = restarted (new_node 16 image_a);
     found = refl;
     handed = omega arith;
-    idle = refl;
-    active = image_a;
-    others = [];
-    images = refl;
-    older = newer;
-    room = omega (arith, long);
+    can = record {
+      idle = refl;
+      active = image_a;
+      others = [];
+      images = refl;
+      older = newer;
+      room = omega (arith, long);
+      some_group = inr (omega arith);
+      in_group = inr refl;
+    };
     unicast = omega arith;
-    some_group = inr (omega arith);
-    in_group = inr refl;
   })
   takes a (inr (inl e)) = subst (Takes (plan_64 version image) (members_64 version image)) (sym e) (record {
     config = record { address = 3; group = 0xC000 };
@@ -45,15 +49,17 @@ module _ (laws : KeepsPlan) (fields : FieldsAreRead) (tiles : Tiles) (read : Met
     state = restarted (new_node 16 image_a);
     found = refl;
     handed = omega arith;
-    idle = refl;
-    active = image_a;
-    others = [];
-    images = refl;
-    older = newer;
-    room = omega (arith, long);
+    can = record {
+      idle = refl;
+      active = image_a;
+      others = [];
+      images = refl;
+      older = newer;
+      room = omega (arith, long);
+      some_group = inr (omega arith);
+      in_group = inr refl;
+    };
     unicast = omega arith;
-    some_group = inr (omega arith);
-    in_group = inr refl;
   })
   takes a (inr (inr e)) = subst (Takes (plan_64 version image) (members_64 version image)) (sym e) (record {
     config = record { address = 4; group = 0xC000 };
@@ -61,15 +67,17 @@ module _ (laws : KeepsPlan) (fields : FieldsAreRead) (tiles : Tiles) (read : Met
     state = restarted (new_node 16 image_a);
     found = refl;
     handed = omega arith;
-    idle = refl;
-    active = image_a;
-    others = [];
-    images = refl;
-    older = newer;
-    room = omega (arith, long);
+    can = record {
+      idle = refl;
+      active = image_a;
+      others = [];
+      images = refl;
+      older = newer;
+      room = omega (arith, long);
+      some_group = inr (omega arith);
+      in_group = inr refl;
+    };
     unicast = omega arith;
-    some_group = inr (omega arith);
-    in_group = inr refl;
   })
 
   from : CanBegin (plan_64 version image) image (2 ∷ 3 ∷ 4 ∷ []) (members_64 version image)
@@ -96,6 +104,18 @@ module _ (laws : KeepsPlan) (fields : FieldsAreRead) (tiles : Tiles) (read : Met
   bound : push_turns (plan_64 version image).sending 3 ≤ 71
   bound = omega arith
 
-  pub three : rows_at 1 (settle 71 (members_64 version image)) ≡ Some (succeeded 2 ∷ succeeded 3 ∷ succeeded 4 ∷ [])
+  full : AllFull (plan_64 version image).sending
+  full b lt = chunks_in b (omega (arith, lt))
+    where
+      whole_block : (b : ℕ) → b < 16 → block_length 65536 12 b ≡ 4096
+      whole_block b lt = omega (arith, lt)
+
+      chunks_in : (b : ℕ) → b < 16 → chunk_total (plan_64 version image).sending b ≡ 21
+      chunks_in b lt = ap (λ n. chunk_count n 200) (whole_block b lt)
+
+  pub three : After70And71 version image
   unfolding from
-  three = (push_completes laws fields tiles read tested (plan_64 version image) image (2 ∷ 3 ∷ 4 ∷ []) (members_64 version image) from refl 71 bound).rows
+  three = record {
+    seventy = takes_all laws fields tiles read tested (plan_64 version image) image (2 ∷ 3 ∷ 4 ∷ []) (members_64 version image) from refl refl (omega arith) full;
+    seventy_one = (push_completes laws fields tiles read tested (plan_64 version image) image (2 ∷ 3 ∷ 4 ∷ []) (members_64 version image) from refl 71 bound).rows;
+  }

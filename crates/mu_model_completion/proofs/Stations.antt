@@ -20,7 +20,7 @@ pub record Within (n : ℕ) (P : List Member → Type 0) (xs : List Member) : Ty
   pub few : turns ≤ n
   pub then_is : P (settle turns xs)
 
-settle_add : (m n : ℕ) (xs : List Member) → settle n (settle m xs) ≡ settle (m + n) xs
+pub settle_add : (m n : ℕ) (xs : List Member) → settle n (settle m xs) ≡ settle (m + n) xs
 settle_add zero n xs = let e : 0 + n ≡ n = omega arith in ap (λ k. settle k xs) (sym e)
 settle_add (suc m) n xs =
     let e : suc m + n ≡ suc (m + n) = omega arith in
@@ -91,7 +91,7 @@ module _ (laws : KeepsPlan) (p : Sending) (meta : Meta) (config : NodeConfig) (i
         holds = turned laws config image s.now _ ps xs s.holds (λ r. r) (λ r. refl) e is_due (map_id (map receiver_in ps)) late;
       }
 
-  begun_place : (r : Receiver) (is_in_it : Bool) → (d.begun_if r is_in_it).row.address ≡ r.row.address
+  pub begun_place : (r : Receiver) (is_in_it : Bool) → (d.begun_if r is_in_it).row.address ≡ r.row.address
   begun_place r true = refl
   begun_place r false = refl
 
@@ -152,3 +152,21 @@ module _ (laws : KeepsPlan) (p : Sending) (meta : Meta) (config : NodeConfig) (i
       → (began moment : ℕ) → d.by_place (client_at (Before next) [] began moment (map receiver_in ps)) image (Before next)
       ≡ d.sends (d.in_step (client_at (Before next) [] began moment (map receiver_in ps)) next) image (d.first_of (client_at (Before next) [] began moment (map receiver_in ps)) next)
   leads_first next ps some began moment = ap (λ b. d.begins_if (client_at (Before next) [] began moment (map receiver_in ps)) image next b) some
+
+  -- a turn in which the client makes this of its receivers, and sends these
+  pub turn_by : (place next : Place) (later items : List Item) (ps : List Pair) (xs : List Member) (s : Station place [] ps xs) (g : Receiver → Receiver) → ((r : Receiver) → (g r).row.address ≡ r.row.address)
+      → (began : ℕ)
+      → d.by_place (client_at place [] s.began (max s.moment (s.now + 100)) (map receiver_in ps)) image place
+      ≡ record { next = client_at next later began (max s.moment (s.now + 100)) (map g (map receiver_in ps)); packets = map (sent_for p image) items }
+      → Station next later (map (pair_turn (client_at next [] 0 0 []) config.address g (sent_all items)) ps) (turn xs)
+  turn_by place next later items ps xs s g keeps began leads =
+      let e : Due = record { next = client_at next later began (max s.moment (s.now + 100)) (map g (map receiver_in ps)); packets = map (sent_for p image) items } in
+      let early = s.early in
+      let late : max s.moment (s.now + 100) ≡ s.now + 100 = omega (arith, early) in
+      record {
+        now = s.now + 100;
+        began = began;
+        moment = max s.moment (s.now + 100);
+        early = omega (arith, late);
+        holds = turned laws config image s.now _ ps xs s.holds g keeps e leads refl late;
+      }

@@ -1,5 +1,5 @@
 -- How many turns an update takes in which nothing is lost.
-use Rattle.std.specs.Prelude.{ℕ, ◌≡◌, ◌≢◌, ◌<◌, ◌≤◌, ◌+◌, ◌*◌, ◌^◌, ◌⊎◌, ◌==◌, true, false, List, [], ◌∷◌, length, map, Option, Some, None, if◌then◌else◌}
+use Rattle.std.specs.Prelude.{ℕ, ◌≡◌, ◌≢◌, ◌<◌, ◌≤◌, ◌+◌, ◌-◌, ◌*◌, ◌^◌, ◌⊎◌, ◌==◌, true, false, List, [], ◌∷◌, length, map, Option, Some, None, if◌then◌else◌}
 use Rattle.std.specs.List.{AllByRecursion}
 use Rattle.mu_model_image.specs.Meta.{Image, IsMeta, IsFit, image_of}
 use Rattle.mu_model_image.specs.Pieces.{piece_count}
@@ -74,23 +74,27 @@ pub record IsUpdate (plan : Plan) (image : List ℕ) : Type 0 where
   pub fit : IsFit image plan.meta
   pub apply : plan.apply ≡ true
 
--- a node of these members takes the update: it is idle, its bank holds the image, its active version is lower; and it is in the
--- group, if there is one
-pub record Takes (plan : Plan) (members : List Member) (a : ℕ) : Type 0 where
-  pub config : NodeConfig
-  pub moment : ℕ
-  pub state : NodeState
-  pub found : at_address a members ≡ Some (record { config = config; moment = moment; part = IsNode state })
-  pub handed : state.moment ≤ moment
+-- a node takes the update: it is idle, its bank holds the image, its active version is lower; and it is in the group, if there is
+-- one
+pub record CanTake (plan : Plan) (config : NodeConfig) (state : NodeState) : Type 0 where
   pub idle : state.durable.job ≡ None
   pub active : Image
   pub others : List Image
   pub images : state.durable.images ≡ active ∷ others
   pub older : active.meta.version < plan.meta.version
   pub room : plan.meta.size ≤ state.durable.capacity
-  pub unicast : a < 0x8000
   pub some_group : (config.group ≡ 0) ⊎ (0xC000 ≤ config.group)
   pub in_group : (plan.sending.group ≡ 0) ⊎ (config.group ≡ plan.sending.group)
+
+-- at this address these members have a node that takes the update
+pub record Takes (plan : Plan) (members : List Member) (a : ℕ) : Type 0 where
+  pub config : NodeConfig
+  pub moment : ℕ
+  pub state : NodeState
+  pub found : at_address a members ≡ Some (record { config = config; moment = moment; part = IsNode state })
+  pub handed : state.moment ≤ moment
+  pub can : CanTake plan config state
+  pub unicast : a < 0x8000
 
 -- no address stands twice
 abbrev pub NoneTwice : List ℕ → Type 0
@@ -126,7 +130,12 @@ abbrev pub push_turns : Sending → (receivers : ℕ) → ℕ
 push_turns p receivers =
     7 * sixteens receivers + block_total p * (2 * sixteens receivers + sixteens (chunk_total p 0 * copies p receivers))
 
--- ---- the law
+-- in pull, seven turns; and for each block one, and two for each sixteen chunks of a full block: one in which the node asks for
+-- them, and one in which they come
+abbrev pub pull_turns : Sending → ℕ
+pull_turns p = 7 + block_total p * (1 + 2 * sixteens (chunk_total p 0))
+
+-- ---- the laws
 
 -- the row of a receiver that has the image
 abbrev pub succeeded : ℕ → Row
@@ -144,6 +153,42 @@ PushCompletes =
     → plan.sending.mode ≡ 1 → (n : ℕ) → push_turns plan.sending (length to) ≤ n
     → Completed from.config.address to (settle n members)
 
+-- the row of a receiver that makes the image active
+abbrev pub applying : ℕ → Row
+applying a = record { address = a; index = 0; phase = 6; update_status = 0; transfer_status = 0; progress = 100 }
+
+-- each block has as many chunks as the first
+abbrev pub AllFull : Sending → Type 0
+AllFull p = (b : ℕ) → b < block_total p → chunk_total p b ≡ chunk_total p 0
+
+-- and not a turn sooner, where each block is full and up to sixteen receivers are in a group
+abbrev pub PushTakesAll : Type 0
+PushTakesAll =
+    (plan : Plan) (image : List ℕ) (to : List ℕ) (members : List Member) (from : CanBegin plan image to members)
+    → plan.sending.mode ≡ 1 → (plan.sending.group == 0) ≡ false → length to ≤ 16 → AllFull plan.sending
+    → rows_at from.config.address (settle (push_turns plan.sending (length to) - 1) members) ≡ Some (map applying to)
+
+-- and in pull, where there is one receiver
+abbrev pub PullCompletes : Type 0
+PullCompletes =
+    (plan : Plan) (image : List ℕ) (to : ℕ) (members : List Member) (from : CanBegin plan image (to ∷ []) members)
+    → plan.sending.mode ≡ 2 → (n : ℕ) → pull_turns plan.sending ≤ n
+    → Completed from.config.address (to ∷ []) (settle n members)
+
+-- nobody is dropped, after however many turns
+abbrev pub NoDrops : (u : ℕ) (to : List ℕ) → List Member → Type 0
+NoDrops u to members = drops_at u members ≡ Some (map (λ a. None) to)
+
+abbrev pub PushDropsNobody : Type 0
+PushDropsNobody =
+    (plan : Plan) (image : List ℕ) (to : List ℕ) (members : List Member) (from : CanBegin plan image to members)
+    → plan.sending.mode ≡ 1 → (n : ℕ) → NoDrops from.config.address to (settle n members)
+
+abbrev pub PullDropsNobody : Type 0
+PullDropsNobody =
+    (plan : Plan) (image : List ℕ) (to : ℕ) (members : List Member) (from : CanBegin plan image (to ∷ []) members)
+    → plan.sending.mode ≡ 2 → (n : ℕ) → NoDrops from.config.address (to ∷ []) (settle n members)
+
 -- three receivers and 64 KiB in 16 blocks of 21 chunks, to a group: 71 turns
 abbrev pub plan_64 : (version : ℕ) → List ℕ → Plan
 plan_64 version image = record {
@@ -156,7 +201,10 @@ abbrev pub members_64 : (version : ℕ) → List ℕ → List Member
 members_64 version image =
     record { config = record { address = 1; group = 0 }; moment = 0; part = IsUpdater (start (plan_64 version image) ((2, 0) ∷ (3, 0) ∷ (4, 0) ∷ [])) image } ∷ three_nodes
 
+-- and no sooner
+pub record After70And71 (version : ℕ) (image : List ℕ) : Type 0 where
+  pub seventy : rows_at 1 (settle 70 (members_64 version image)) ≡ Some (applying 2 ∷ applying 3 ∷ applying 4 ∷ [])
+  pub seventy_one : rows_at 1 (settle 71 (members_64 version image)) ≡ Some (succeeded 2 ∷ succeeded 3 ∷ succeeded 4 ∷ [])
+
 abbrev pub ThreeOver64KiB : Type 0
-ThreeOver64KiB =
-    (version : ℕ) (image : List ℕ) → 1 < version → version < 2 ^ 32 → length image ≡ 65536
-    → rows_at 1 (settle 71 (members_64 version image)) ≡ Some (succeeded 2 ∷ succeeded 3 ∷ succeeded 4 ∷ [])
+ThreeOver64KiB = (version : ℕ) (image : List ℕ) → 1 < version → version < 2 ^ 32 → length image ≡ 65536 → After70And71 version image

@@ -41,6 +41,14 @@ pub record OneNodeCompletes : Type 0 where
   pub ten : all_rows (settle 10 (updater_abc ∷ node_at 2 0 1 ∷ [])) ≡ (8 ∷ 0 ∷ 0 ∷ 100 ∷ []) ∷ []
   pub nine : all_rows (settle 9 (updater_abc ∷ node_at 2 0 1 ∷ [])) ≡ (6 ∷ 0 ∷ 0 ∷ 100 ∷ []) ∷ []
 
+-- and so in pull, where the node asks for the one chunk
+abbrev pub updater_pull : Member
+updater_pull = record { config = record { address = 1; group = 0 }; moment = 0; part = IsUpdater (start (record plan_abc { sending = record sending_abc { mode = 2 } }) ((2, 0) ∷ [])) image_abc.octets }
+
+pub record OneNodePulls : Type 0 where
+  pub ten : all_rows (settle 10 (updater_pull ∷ node_at 2 0 1 ∷ [])) ≡ (8 ∷ 0 ∷ 0 ∷ 100 ∷ []) ∷ []
+  pub nine : all_rows (settle 9 (updater_pull ∷ node_at 2 0 1 ∷ [])) ≡ (6 ∷ 0 ∷ 0 ∷ 100 ∷ []) ∷ []
+
 -- the node has the offered version already: it is dropped by the check, and the updater has ended
 abbrev pub newer_node : Member
 newer_node = record { config = record { address = 2; group = 0 }; moment = 0; part = IsNode (restarted (new_node 1 image_abc)) }
