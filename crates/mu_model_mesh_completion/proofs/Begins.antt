@@ -1,5 +1,5 @@
 -- The members of a world in which an updater is about to begin can begin.
-use Rattle.std.proofs.Common.{◌≡◌, ◌≢◌, ◌<◌, ◌≤◌, ◌+◌, ◌*◌, ◌^◌, ℕ, nat_eq, Bool, true, false, List, [], ◌∷◌, ◌++◌, length, map, refl, sym, ap, subst, ◌∙◌, cond, arith, length-append, Option, Some, None, inl, inr, ◌⊎◌}
+use Rattle.std.proofs.Common.{◌≡◌, ◌≢◌, ◌<◌, ◌≤◌, ◌+◌, ◌-◌, ◌*◌, ◌^◌, ℕ, nat_eq, Bool, true, false, List, [], ◌∷◌, ◌++◌, length, map, refl, sym, ap, subst, ◌∙◌, cond, arith, length-append, Option, Some, None, inl, inr, ◌⊎◌}
 use Rattle.std.specs.Prelude.{◌==◌}
 use Rattle.std.specs.List.{AllByRecursion, flat_map}
 use Rattle.std.proofs.lemmas.Bool.{eqb-true, ne_eqb, eq-eqb}
@@ -9,7 +9,8 @@ use Rattle.mu_model_image.specs.Meta.{Image, IsMeta, meta_octets, image_of}
 use Rattle.mu_model_image.specs.Laws.{ImagesFit, ImagesHaveMetadata}
 use Rattle.mu_model_node.specs.NodeState.{Job, NodeState}
 use Rattle.mu_model_told.specs.Laws.{HasNumbers}
-use Rattle.mu_model_client.specs.Begin.{is_ended, new_active}
+use Rattle.mu_model_client.specs.Begin.{is_ended, start, new_active}
+use Rattle.mu_model_client.specs.Rows.{Row}
 use Rattle.mu_model_client.specs.Client.{Client}
 use Rattle.mu_model_updater.specs.Updater.{UpdaterLine, plan_of, updater_of, first_image}
 use Rattle.mu_model_world.specs.World as w
@@ -18,11 +19,11 @@ use Rattle.mu_model_mesh.specs.Mesh.{UpdaterMember, Mesh, node_at, updater_at}
 use Rattle.mu_model_mesh.specs.MeshOutcomes.{mesh_begun}
 use Rattle.mu_model_mesh.specs.Settle.{Settles}
 use Rattle.mu_model_completion.specs.Completion as typed
-use Rattle.mu_model_completion.specs.Completion.{at_address, IsQuiet, IsUpdate, CanBegin, PushCompletes, push_turns}
+use Rattle.mu_model_completion.specs.Completion.{at_address, rows_at, drops_at, IsQuiet, IsUpdate, NoneTwice, CanBegin, push_turns, applying, succeeded, PushCompletes, PushTakesAll, PullCompletes, PushDropsNobody, PullDropsNobody}
 use Rattle.mu_model_completion.specs.Turn.{Member, IsNode, IsUpdater, settle}
 use Rattle.mu_model_mesh_completion.specs.Settled as settled
-use Rattle.mu_model_mesh_completion.specs.Settled.{JobHasMessages, IsWorld, IsLine, CanSettle, IsCompleted}
-use Rattle.mu_model_mesh_completion.specs.Laws.{SettleCompletes}
+use Rattle.mu_model_mesh_completion.specs.Settled.{JobHasMessages, IsWorld, IsLine, CanSettle, DropsNobody}
+use Rattle.mu_model_mesh_completion.specs.Laws.{SettlesTo, PushSettles, PushSettlesNoSooner, PullSettles, PushSettleDropsNobody, PullSettleDropsNobody}
 use Rattle.mu_model_mesh_completion.proofs.Shown.{JobFits}
 use Rattle.mu_model_mesh_completion.proofs.Nodes.{NodeFits}
 use Rattle.mu_model_mesh_completion.proofs.Asks.{SendingFits, Indexes, ClientFits}
@@ -31,7 +32,7 @@ use Rattle.mu_model_mesh_completion.proofs.Worlds.{members_by, member_of, member
 use Rattle.mu_model_mesh_completion.proofs.Happens.{Wire}
 use Rattle.mu_model_mesh_completion.proofs.Each.{all_joined}
 use Rattle.mu_model_mesh_completion.proofs.Turns.{Here, settles}
-use Rattle.mu_model_mesh_completion.proofs.Ends.{found, distinct, completed}
+use Rattle.mu_model_mesh_completion.proofs.Ends.{found, distinct, Rows, rows_there, drops_there}
 
 -- ---- what the line says
 
@@ -151,52 +152,89 @@ takes line m world a h =
       state = n.state;
       found = found m a m.order (record { config = config_of a n; moment = n.moment; part = IsNode n.state }) (ap (λ (x : Option w.Member). members_by a x (updater_at m a)) h.found) refl h.member;
       handed = node.handed;
-      idle = h.idle;
-      active = h.active;
-      others = h.others;
-      images = h.images;
-      older = h.older;
-      room = h.room;
+      can = record {
+        idle = h.idle;
+        active = h.active;
+        others = h.others;
+        images = h.images;
+        older = h.older;
+        room = h.room;
+        some_group = node.some_group;
+        in_group = h.in_group;
+      };
       unicast = node.unicast;
-      some_group = node.some_group;
-      in_group = h.in_group;
     }
 
 all_take : (line : UpdaterLine) (m : Mesh) → IsWorld m → (to : List ℕ) → AllByRecursion (settled.Takes line m) to → AllByRecursion (typed.Takes (plan_of line) (members m)) to
 all_take line m world [] h = tt
 all_take line m world (a ∷ to) h = (takes line m world a h.0, all_take line m world to h.1)
 
-pairs : (to : List ℕ) → map first_image to ≡ map (λ a. (a, 0)) to
-pairs to = refl
-
 -- ---- the beginning
 
-can_begin : Images → (line : UpdaterLine) (m : Mesh) → IsWorld m → CanSettle line m → CanBegin (plan_of line) line.content line.receivers (members m)
-can_begin images line m world can =
+can_begin : Images → (line : UpdaterLine) (to : List ℕ) → line.receivers ≡ to → (m : Mesh) → IsWorld m → CanSettle line m → CanBegin (plan_of line) line.content to (members m)
+can_begin images line to is m world can =
     let nobody_there : node_at m line.address ≡ None = (world.updaters line.address (record { moment = can.moment; updater = updater_of line }) can.updater).1 in
     let own : Member = record { config = record { address = line.address; group = 0 }; moment = can.moment; part = IsUpdater (updater_of line).client line.content } in
+    let found_there : at_address line.address (members m) ≡ Some own =
+    found m line.address m.order own
+    (ap (λ (x : Option w.Member). members_by line.address x (updater_at m line.address)) nobody_there ∙ ap (λ (x : Option UpdaterMember). members_by line.address None x) can.updater)
+    refl can.member in
     record {
       update = is_update images line can.range;
       config = record { address = line.address; group = 0 };
       moment = can.moment;
       from = refl;
-      updater =
-          found m line.address m.order own
-          (ap (λ (x : Option w.Member). members_by line.address x (updater_at m line.address)) nobody_there ∙ ap (λ (x : Option UpdaterMember). members_by line.address None x) can.updater)
-          refl can.member;
+      updater = found_there ∙ ap (λ (xs : List ℕ). Some (record { config = record { address = line.address; group = 0 }; moment = can.moment; part = IsUpdater (start (plan_of line) (map first_image xs)) line.content })) is;
       distinct = distinct m m.order world.once;
       quiet = all_quiet line m can m.order;
-      some = can.range.some;
-      few = can.range.few;
-      none_twice = can.range.none_twice;
-      takes = all_take line m world line.receivers can.takes;
+      some = subst (λ (xs : List ℕ). 1 ≤ length xs) is can.range.some;
+      few = subst (λ (xs : List ℕ). length xs ≤ 128) is can.range.few;
+      none_twice = subst NoneTwice is can.range.none_twice;
+      takes = all_take line m world to (subst (λ (xs : List ℕ). AllByRecursion (settled.Takes line m) xs) is can.takes);
     }
 
-pub settle_completes : AllLaws → Wire → Images → PushCompletes → SettleCompletes
+module _ (laws : AllLaws) (wire : Wire) (images : Images) (line : UpdaterLine) (m next : Mesh) (text : List ℕ) (turns : ℕ) (world : IsWorld m) (can : CanSettle line m) (s : SettlesTo turns m text next) where
+  came : members next ≡ settle turns (members m)
+  came = (settles laws wire turns (mesh_begun m) text next (members m) (here images line m world can) s).is
+
+  shows : (shown : List Row) → rows_at line.address (settle turns (members m)) ≡ Some shown → Rows line next shown
+  shows shown r = rows_there line next shown (at_address line.address (members next)) refl (ap (λ (xs : List Member). rows_at line.address xs) came ∙ r)
+
+  nobody_dropped : drops_at line.address (settle turns (members m)) ≡ Some (map (λ a. None) line.receivers) → DropsNobody line next
+  nobody_dropped d = drops_there line next (at_address line.address (members next)) refl (ap (λ (xs : List Member). drops_at line.address xs) came ∙ d)
+
+-- ---- push
+
+pub push_settles : AllLaws → Wire → Images → PushCompletes → PushSettles
 unfolding can_begin
-settle_completes laws wire images push line m next text turns world can mode enough s =
-    let at : Here next (settle turns (members m)) = settles laws wire turns (mesh_begun m) text next (members m) (here images line m world can) s in
-    let done = push (plan_of line) line.content line.receivers (members m) (can_begin images line m world can) mode turns enough in
-    completed line next (at_address line.address (members next)) refl
-    (ap (λ (xs : List Member). typed.rows_in (at_address line.address xs)) at.is ∙ done.rows)
-    (ap (λ (xs : List Member). typed.drops_in (at_address line.address xs)) at.is ∙ done.drops)
+push_settles laws wire images law line m next text turns world can mode enough s =
+    let done = law (plan_of line) line.content line.receivers (members m) (can_begin images line line.receivers refl m world can) mode turns enough in
+    let r = shows laws wire images line m next text turns world can s (map succeeded line.receivers) done.rows in
+    record { member = r.member; found = r.found; rows = r.rows }
+
+pub push_settles_no_sooner : AllLaws → Wire → Images → PushTakesAll → PushSettlesNoSooner
+unfolding can_begin
+push_settles_no_sooner laws wire images law line m next text world can mode group few full s =
+    let rows = law (plan_of line) line.content line.receivers (members m) (can_begin images line line.receivers refl m world can) mode group few full in
+    let r = shows laws wire images line m next text (push_turns (plan_of line).sending (length line.receivers) - 1) world can s (map applying line.receivers) rows in
+    record { member = r.member; found = r.found; rows = r.rows }
+
+pub push_drops_nobody : AllLaws → Wire → Images → PushDropsNobody → PushSettleDropsNobody
+unfolding can_begin
+push_drops_nobody laws wire images law line m next text turns world can mode s =
+    nobody_dropped laws wire images line m next text turns world can s (law (plan_of line) line.content line.receivers (members m) (can_begin images line line.receivers refl m world can) mode turns)
+
+-- ---- pull
+
+pub pull_settles : AllLaws → Wire → Images → PullCompletes → PullSettles
+unfolding can_begin
+pull_settles laws wire images law line to m next text turns world can mode one enough s =
+    let done = law (plan_of line) line.content to (members m) (can_begin images line (to ∷ []) one m world can) mode turns enough in
+    let r = shows laws wire images line m next text turns world can s (map succeeded line.receivers) (done.rows ∙ ap (λ (xs : List ℕ). Some (map succeeded xs)) (sym one)) in
+    record { member = r.member; found = r.found; rows = r.rows }
+
+pub pull_drops_nobody : AllLaws → Wire → Images → PullDropsNobody → PullSettleDropsNobody
+unfolding can_begin
+pull_drops_nobody laws wire images law line to m next text turns world can mode one s =
+    nobody_dropped laws wire images line m next text turns world can s
+    (law (plan_of line) line.content to (members m) (can_begin images line (to ∷ []) one m world can) mode turns ∙ ap (λ (xs : List ℕ). Some (map (λ a. None) xs)) (sym one))

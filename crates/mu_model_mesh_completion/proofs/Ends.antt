@@ -20,9 +20,9 @@ use Rattle.mu_model_mesh.specs.Mesh.{UpdaterMember, Mesh, is_member, node_at, up
 use Rattle.mu_model_mesh.specs.MeshOutcomes.{mesh_begun}
 use Rattle.mu_model_completion.specs.Completion as typed
 use Rattle.mu_model_completion.specs.Completion.{at_address, Distinct, IsQuiet, AllQuiet, rows_of, rows_in, drop_of, drops_of, drops_in, IsUpdate, NoneTwice, CanBegin, succeeded, Completed}
-use Rattle.mu_model_completion.specs.Turn.{Member, IsNode, IsUpdater}
+use Rattle.mu_model_completion.specs.Turn.{Member, Part, IsNode, IsUpdater}
 use Rattle.mu_model_mesh_completion.specs.Settled as settled
-use Rattle.mu_model_mesh_completion.specs.Settled.{JobHasMessages, IsWorld, IsLine, CanSettle, IsCompleted}
+use Rattle.mu_model_mesh_completion.specs.Settled.{DropsNobody}
 use Rattle.mu_model_mesh_completion.proofs.Shown.{JobFits}
 use Rattle.mu_model_mesh_completion.proofs.Asks.{SendingFits, Indexes, ClientFits}
 use Rattle.mu_model_mesh_completion.proofs.Members.{MemberFits}
@@ -94,22 +94,44 @@ back m a (b ∷ bs) x h = back_by m a b bs x (node_at m b) (updater_at m b) refl
 
 -- ---- the end
 
-completed_by : (line : UpdaterLine) (m : Mesh) (x : Member) (n : Option w.Member) (u : Option UpdaterMember) → updater_at m line.address ≡ u → members_by line.address n u ≡ x ∷ []
-    → rows_of x.part ≡ Some (map succeeded line.receivers) → drops_of x.part ≡ Some (map (λ a. None) line.receivers) → IsCompleted line m
-completed_by line m x (Some n) u at is r d =
-    let same : record { config = config_of line.address n; moment = n.moment; part = IsNode n.state } ≡ x = cc in
-    let none : rows_of (IsNode n.state) ≡ Some (map succeeded line.receivers) = ap (λ (y : Member). rows_of y.part) same ∙ r in
-    absurd (some_none none)
-  where
-    some_none : {A : Type 0} {a : A} → None ≡ Some a → ⊥
-    some_none e = cc
-completed_by line m x None (Some u) at is r d =
-    let same : record { config = record { address = line.address; group = 0 }; moment = u.moment; part = IsUpdater u.updater.client u.updater.image.octets } ≡ x = cc in
-    let own : Some (rows u.updater.client) ≡ Some (map succeeded line.receivers) = ap (λ (y : Member). rows_of y.part) same ∙ r in
-    let gone : Some (map drop_of u.updater.client.receivers) ≡ Some (map (λ a. None) line.receivers) = ap (λ (y : Member). drops_of y.part) same ∙ d in
-    record { member = u; found = at; rows = cc; drops = cc }
-completed_by line m x None None at is r d = cc
+-- an updater stands at the address, with this part
+pub record There (line : UpdaterLine) (m : Mesh) (part : Part) : Type 0 where
+  pub member : UpdaterMember
+  pub found : updater_at m line.address ≡ Some member
+  pub same : IsUpdater member.updater.client member.updater.image.octets ≡ part
 
-pub completed : (line : UpdaterLine) (m : Mesh) (o : Option Member) → at_address line.address (members m) ≡ o → rows_in o ≡ Some (map succeeded line.receivers) → drops_in o ≡ Some (map (λ a. None) line.receivers) → IsCompleted line m
-completed line m None e r d = cc
-completed line m (Some x) e r d = completed_by line m x (node_at m line.address) (updater_at m line.address) refl (back m line.address m.order x e) r d
+there_by : (line : UpdaterLine) (m : Mesh) (x : Member) (n : Option w.Member) (u : Option UpdaterMember) → updater_at m line.address ≡ u → members_by line.address n u ≡ x ∷ []
+    → ((s : NodeState) → IsNode s ≡ x.part → ⊥) → There line m x.part
+there_by line m x (Some n) u at is other =
+    let same : record { config = config_of line.address n; moment = n.moment; part = IsNode n.state } ≡ x = cc in
+    absurd (other n.state (ap (λ (y : Member). y.part) same))
+there_by line m x None (Some u) at is other =
+    let same : record { config = record { address = line.address; group = 0 }; moment = u.moment; part = IsUpdater u.updater.client u.updater.image.octets } ≡ x = cc in
+    record { member = u; found = at; same = ap (λ (y : Member). y.part) same }
+there_by line m x None None at is other = cc
+
+there : (line : UpdaterLine) (m : Mesh) (x : Member) → at_address line.address (members m) ≡ Some x → ((s : NodeState) → IsNode s ≡ x.part → ⊥) → There line m x.part
+there line m x e other = there_by line m x (node_at m line.address) (updater_at m line.address) refl (back m line.address m.order x e) other
+
+some_none : {A : Type 0} {a : A} → None ≡ Some a → ⊥
+some_none e = cc
+
+-- its rows, and the drops of its receivers
+pub record Rows (line : UpdaterLine) (m : Mesh) (shown : List Row) : Type 0 where
+  pub member : UpdaterMember
+  pub found : updater_at m line.address ≡ Some member
+  pub rows : rows member.updater.client ≡ shown
+
+pub rows_there : (line : UpdaterLine) (m : Mesh) (shown : List Row) (o : Option Member) → at_address line.address (members m) ≡ o → rows_in o ≡ Some shown → Rows line m shown
+rows_there line m shown None e r = cc
+rows_there line m shown (Some x) e r =
+    let t : There line m x.part = there line m x e (λ s is. some_none (ap rows_of is ∙ r)) in
+    let own : Some (rows t.member.updater.client) ≡ Some shown = ap rows_of t.same ∙ r in
+    record { member = t.member; found = t.found; rows = cc }
+
+pub drops_there : (line : UpdaterLine) (m : Mesh) (o : Option Member) → at_address line.address (members m) ≡ o → drops_in o ≡ Some (map (λ a. None) line.receivers) → DropsNobody line m
+drops_there line m None e d = cc
+drops_there line m (Some x) e d =
+    let t : There line m x.part = there line m x e (λ s is. some_none (ap drops_of is ∙ d)) in
+    let own : Some (map drop_of t.member.updater.client.receivers) ≡ Some (map (λ a. None) line.receivers) = ap drops_of t.same ∙ d in
+    record { member = t.member; found = t.found; drops = cc }

@@ -1,14 +1,46 @@
 -- Completion without loss, of the line `settle`.
-use Rattle.std.specs.Prelude.{ℕ, ◌≡◌, ◌≤◌, List, length}
-use Rattle.mu_model_completion.specs.Completion.{push_turns}
+use Rattle.std.specs.Prelude.{ℕ, ◌≡◌, ◌≤◌, ◌-◌, ◌==◌, false, List, [], ◌∷◌, length}
+use Rattle.mu_model_client.specs.declared.Sending.{Sending}
+use Rattle.mu_model_completion.specs.Completion.{push_turns, pull_turns, AllFull}
 use Rattle.mu_model_updater.specs.Updater.{UpdaterLine, plan_of}
 use Rattle.mu_model_mesh.specs.Mesh.{Mesh}
 use Rattle.mu_model_mesh.specs.MeshOutcomes.{mesh_begun}
 use Rattle.mu_model_mesh.specs.Settle.{Settles}
-use Rattle.mu_model_mesh_completion.specs.Settled.{IsWorld, CanSettle, IsCompleted}
+use Rattle.mu_model_mesh_completion.specs.Settled.{IsWorld, CanSettle, DropsNobody, IsCompleted, IsApplying}
+
+-- a `settle` of so many turns leads from a world to the next
+abbrev pub SettlesTo : (turns : ℕ) → Mesh → (text : List ℕ) → Mesh → Type 0
+SettlesTo turns m text next = Settles turns (mesh_begun m) text next
+
+abbrev pub sending_of : UpdaterLine → Sending
+sending_of line = (plan_of line).sending
 
 -- in push an updater's update is complete after a `settle` of so many turns or more
-abbrev pub SettleCompletes : Type 0
-SettleCompletes =
+abbrev pub PushSettles : Type 0
+PushSettles =
     (line : UpdaterLine) (m next : Mesh) (text : List ℕ) (turns : ℕ) → IsWorld m → CanSettle line m → line.mode ≡ 1
-    → push_turns (plan_of line).sending (length line.receivers) ≤ turns → Settles turns (mesh_begun m) text next → IsCompleted line next
+    → push_turns (sending_of line) (length line.receivers) ≤ turns → SettlesTo turns m text next → IsCompleted line next
+
+-- and not after one turn fewer, where each block is full and up to sixteen receivers are in a group
+abbrev pub PushSettlesNoSooner : Type 0
+PushSettlesNoSooner =
+    (line : UpdaterLine) (m next : Mesh) (text : List ℕ) → IsWorld m → CanSettle line m → line.mode ≡ 1
+    → (line.group == 0) ≡ false → length line.receivers ≤ 16 → AllFull (sending_of line)
+    → SettlesTo (push_turns (sending_of line) (length line.receivers) - 1) m text next → IsApplying line next
+
+-- in pull it is so where there is one receiver
+abbrev pub PullSettles : Type 0
+PullSettles =
+    (line : UpdaterLine) (to : ℕ) (m next : Mesh) (text : List ℕ) (turns : ℕ) → IsWorld m → CanSettle line m → line.mode ≡ 2 → line.receivers ≡ to ∷ []
+    → pull_turns (sending_of line) ≤ turns → SettlesTo turns m text next → IsCompleted line next
+
+-- no receiver is dropped, after however many turns
+abbrev pub PushSettleDropsNobody : Type 0
+PushSettleDropsNobody =
+    (line : UpdaterLine) (m next : Mesh) (text : List ℕ) (turns : ℕ) → IsWorld m → CanSettle line m → line.mode ≡ 1
+    → SettlesTo turns m text next → DropsNobody line next
+
+abbrev pub PullSettleDropsNobody : Type 0
+PullSettleDropsNobody =
+    (line : UpdaterLine) (to : ℕ) (m next : Mesh) (text : List ℕ) (turns : ℕ) → IsWorld m → CanSettle line m → line.mode ≡ 2 → line.receivers ≡ to ∷ []
+    → SettlesTo turns m text next → DropsNobody line next

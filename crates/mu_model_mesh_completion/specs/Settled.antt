@@ -12,7 +12,7 @@ use Rattle.mu_model_client.specs.Client.{rows}
 use Rattle.mu_model_updater.specs.Updater.{UpdaterLine, updater_of}
 use Rattle.mu_model_world.specs.World.{Member}
 use Rattle.mu_model_mesh.specs.Mesh.{UpdaterMember, Mesh, is_member, node_at, updater_at}
-use Rattle.mu_model_completion.specs.Completion.{NoneTwice, drop_of, succeeded}
+use Rattle.mu_model_completion.specs.Completion.{NoneTwice, applying, drop_of, succeeded}
 
 -- ---- worlds
 
@@ -95,9 +95,20 @@ pub record CanSettle (line : UpdaterLine) (m : Mesh) : Type 0 where
 
 -- ---- the end
 
--- each receiver's row is in phase 8 with statuses 0 and progress 100, and none was dropped
+-- no receiver of the updater was dropped
+pub record DropsNobody (line : UpdaterLine) (m : Mesh) : Type 0 where
+  pub member : UpdaterMember
+  pub found : updater_at m line.address ≡ Some member
+  pub drops : map drop_of member.updater.client.receivers ≡ map (λ a. None) line.receivers
+
+-- each receiver's row is in phase 8 with statuses 0 and progress 100
 pub record IsCompleted (line : UpdaterLine) (m : Mesh) : Type 0 where
   pub member : UpdaterMember
   pub found : updater_at m line.address ≡ Some member
   pub rows : rows member.updater.client ≡ map succeeded line.receivers
-  pub drops : map drop_of member.updater.client.receivers ≡ map (λ a. None) line.receivers
+
+-- or still in phase 6
+pub record IsApplying (line : UpdaterLine) (m : Mesh) : Type 0 where
+  pub member : UpdaterMember
+  pub found : updater_at m line.address ≡ Some member
+  pub rows : rows member.updater.client ≡ map applying line.receivers

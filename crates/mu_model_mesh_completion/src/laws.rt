@@ -1,21 +1,29 @@
 //! Laws on whole updates of a script in which nothing is lost: functions that do nothing, whose contracts are proved.
 
-ghost use Rattle.mu_model_mesh_completion.specs.Laws.{SettleCompletes};
+ghost use Rattle.mu_model_mesh_completion.specs.Laws.{PushSettles, PushSettlesNoSooner, PullSettles, PushSettleDropsNobody, PullSettleDropsNobody};
 
 use mu_model_client_laws::laws::{
     plans_stay, replies_are_read, requests_are_no_answers, requests_are_read,
 };
-use mu_model_completion::laws::push_completes;
+use mu_model_completion::laws::{nobody_is_dropped, pull_completes, push_completes};
 use mu_model_image::laws::{blocks, chunks, images};
 use mu_model_node::laws::{states_are_sound, told_phase};
 use mu_model_wire::laws::{canonical_is_read, grammar_holds};
 
-/// In push all receivers of an updater have its image after a `settle` of so many turns, and from then on, where nothing is lost: seven
-/// turns for each sixteen receivers, and for each block two for each sixteen receivers and one for each sixteen chunks.
+/// Where nothing is lost, a `settle` of so many turns completes the update of an updater that has had no event: in push seven turns
+/// for each sixteen receivers, and for each block two for each sixteen receivers and one for each sixteen chunks; in pull with one
+/// receiver seven turns, and for each block one and two for each sixteen chunks. In push with full blocks and up to sixteen receivers
+/// in a group not a turn sooner. No receiver is dropped, after however many turns.
 pub fn settle_completes()
-    ensures { SettleCompletes }
+    ensures push { PushSettles }
+    ensures no_sooner { PushSettlesNoSooner }
+    ensures pull { PullSettles }
+    ensures push_drops_nobody { PushSettleDropsNobody }
+    ensures pull_drops_nobody { PullSettleDropsNobody }
 {
     push_completes();
+    pull_completes();
+    nobody_is_dropped();
     requests_are_read();
     requests_are_no_answers();
     replies_are_read();

@@ -1,10 +1,11 @@
-use Rattle.mu_model_mesh_completion.proofs.Begins.{settle_completes}
+use Rattle.mu_model_mesh_completion.proofs.Begins.{push_settles, push_settles_no_sooner, push_drops_nobody, pull_settles, pull_drops_nobody, Images}
+use Rattle.mu_model_mesh_completion.proofs.Happens.{Wire}
+use Rattle.mu_model_mesh_completion.proofs.Members.{AllLaws}
 use Rattle.mu_model_mesh_completion.proofs.laws.settle_completes.Goals as goal
 
 pub returns : goal.returns
 returns c =
-    settle_completes
-    (record {
+    let all : AllLaws = record {
       nodes = record {
         images = c.images.ensures.metadata;
         requests = c.states_are_sound.ensures.requests;
@@ -19,13 +20,19 @@ returns c =
         chunk_long = c.chunks.ensures.length;
       };
       plans = c.plans_stay.ensures;
-    })
-    (record {
+    } in
+    let wire : Wire = record {
       grammar = c.grammar_holds.ensures;
       canonical = c.canonical_is_read.ensures;
       requests = c.requests_are_read.ensures;
       no_answers = c.requests_are_no_answers.ensures.answers;
       replies = c.replies_are_read.ensures;
-    })
-    (record { fit = c.images.ensures.fit; metadata = c.images.ensures.metadata })
-    c.push_completes.ensures
+    } in
+    let own : Images = record { fit = c.images.ensures.fit; metadata = c.images.ensures.metadata } in
+    record {
+      push = push_settles all wire own c.push_completes.ensures.completes;
+      no_sooner = push_settles_no_sooner all wire own c.push_completes.ensures.takes_all;
+      pull = pull_settles all wire own c.pull_completes.ensures;
+      push_drops_nobody = push_drops_nobody all wire own c.nobody_is_dropped.ensures.push;
+      pull_drops_nobody = pull_drops_nobody all wire own c.nobody_is_dropped.ensures.pull;
+    }
