@@ -67,7 +67,7 @@ first_indexes : (to : List ℕ) → Indexes (map new_active (map first_image to)
 first_indexes [] = tt
 first_indexes (a ∷ to) = (omega arith, first_indexes to)
 
-begins_fit : Images → (line : UpdaterLine) → IsLine line → ClientFits (updater_of line).client line.content
+pub begins_fit : Images → (line : UpdaterLine) → IsLine line → ClientFits (updater_of line).client line.content
 begins_fit images line h = record { sending = sending_fits images line h; indexes = first_indexes line.receivers; queue = tt; place = tt }
 
 is_update : Images → (line : UpdaterLine) → IsLine line → IsUpdate (plan_of line) line.content

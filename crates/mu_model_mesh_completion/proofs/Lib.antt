@@ -11,3 +11,8 @@ pub mod Each
 pub mod Turns
 pub mod Ends
 pub mod Begins
+pub mod ReadOctets
+pub mod Kept
+pub mod KeptEvents
+pub mod KeptLines
+pub mod KeptRuns

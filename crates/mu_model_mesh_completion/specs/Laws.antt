@@ -1,10 +1,14 @@
 -- Completion without loss, of the line `settle`.
-use Rattle.std.specs.Prelude.{ℕ, ◌≡◌, ◌≤◌, ◌-◌, ◌==◌, false, List, [], ◌∷◌, length}
+use Rattle.std.specs.Prelude.{ℕ, ◌≡◌, ◌≤◌, ◌-◌, ◌==◌, false, List, [], ◌∷◌, length, Some, Ok}
+use Rattle.std.specs.List.{AllByRecursion}
 use Rattle.mu_model_client.specs.declared.Sending.{Sending}
 use Rattle.mu_model_completion.specs.Completion.{push_turns, pull_turns, AllFull}
 use Rattle.mu_model_updater.specs.Updater.{UpdaterLine, plan_of}
-use Rattle.mu_model_mesh.specs.Mesh.{Mesh}
+use Rattle.mu_model_script.specs.Event.{Distributor}
+use Rattle.mu_model_script.specs.Lines.{script_event}
+use Rattle.mu_model_mesh.specs.Mesh.{Mesh, new_mesh}
 use Rattle.mu_model_mesh.specs.MeshOutcomes.{mesh_begun}
+use Rattle.mu_model_mesh.specs.MeshRun.{MeshRun}
 use Rattle.mu_model_mesh.specs.Settle.{Settles}
 use Rattle.mu_model_mesh_completion.specs.Settled.{IsWorld, CanSettle, DropsNobody, IsCompleted, IsApplying}
 
@@ -44,3 +48,13 @@ abbrev pub PullSettleDropsNobody : Type 0
 PullSettleDropsNobody =
     (line : UpdaterLine) (to : ℕ) (m next : Mesh) (text : List ℕ) (turns : ℕ) → IsWorld m → CanSettle line m → line.mode ≡ 2 → line.receivers ≡ to ∷ []
     → SettlesTo turns m text next → DropsNobody line next
+
+-- ---- scripts
+
+-- no line of a script makes a distributor
+abbrev pub NoDistributor : List (List ℕ) → Type 0
+NoDistributor lines = AllByRecursion (λ line. (address pages : ℕ) → script_event line ≡ Ok (Some (Distributor address pages)) → ⊥) lines
+
+-- so each world of its runs, whatever lines come and whatever outcomes its tears have, is as these laws ask
+abbrev pub WorldsOfScripts : Type 0
+WorldsOfScripts = (lines : List (List ℕ)) (text : List ℕ) (m : Mesh) → MeshRun new_mesh lines text m → NoDistributor lines → IsWorld m

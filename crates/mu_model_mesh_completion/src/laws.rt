@@ -1,14 +1,15 @@
 //! Laws on whole updates of a script in which nothing is lost: functions that do nothing, whose contracts are proved.
 
-ghost use Rattle.mu_model_mesh_completion.specs.Laws.{PushSettles, PushSettlesNoSooner, PullSettles, PushSettleDropsNobody, PullSettleDropsNobody};
+ghost use Rattle.mu_model_mesh_completion.specs.Laws.{PushSettles, PushSettlesNoSooner, PullSettles, PushSettleDropsNobody, PullSettleDropsNobody, WorldsOfScripts};
 
 use mu_model_client_laws::laws::{
     plans_stay, replies_are_read, requests_are_no_answers, requests_are_read,
 };
 use mu_model_completion::laws::{nobody_is_dropped, pull_completes, push_completes};
-use mu_model_image::laws::{blocks, chunks, images};
-use mu_model_node::laws::{states_are_sound, told_phase};
-use mu_model_wire::laws::{canonical_is_read, grammar_holds};
+use mu_model_image::laws::{blocks, chunks, images, made};
+use mu_model_node::laws::{flash_work, states_are_sound, told_phase};
+use mu_model_script::script_event_is_in_range;
+use mu_model_wire::laws::{canonical_is_read, grammar_holds, reads_what_is_spelled};
 
 /// Where nothing is lost, a `settle` of so many turns completes the update of an updater that has had no event: in push seven turns
 /// for each sixteen receivers, and for each block two for each sixteen receivers and one for each sixteen chunks; in pull with one
@@ -35,4 +36,24 @@ pub fn settle_completes()
     told_phase();
     grammar_holds();
     canonical_is_read();
+}
+
+/// Each world of each run of a script without distributors, whatever its lines and the outcomes of its tears are, is one that these
+/// laws ask for: its nodes are sound, an updater sends from its own address, and no address stands twice.
+pub fn worlds_of_scripts()
+    ensures { WorldsOfScripts }
+{
+    requests_are_read();
+    plans_stay();
+    blocks();
+    chunks();
+    images();
+    made();
+    states_are_sound();
+    flash_work();
+    told_phase();
+    grammar_holds();
+    canonical_is_read();
+    reads_what_is_spelled();
+    script_event_is_in_range();
 }
