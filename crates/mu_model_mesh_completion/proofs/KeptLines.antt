@@ -192,7 +192,7 @@ module _ (laws : LineLaws) where
       others a [] e = tt
       others a (b ∷ to) e = let own = head a b (nat_eq a b) (list_any (nat_eq a) to) refl e in (own.0, others a to own.1)
 
-  line_fits : (address group id ttl base mode log chunk version : ℕ) (content : Content) (to : List ℕ) → IsUpdater address group id ttl base mode log chunk version content to
+  pub line_fits : (address group id ttl base mode log chunk version : ℕ) (content : Content) (to : List ℕ) → IsUpdater address group id ttl base mode log chunk version content to
       → IsLine (record { address = address; group = group; id = id; ttl = ttl; base = base; mode = mode; log = log; chunk = chunk; version = version; content = content_octets content; receivers = to })
   line_fits address group id ttl base mode log chunk version content to h =
       let small = h.address_in.1 in

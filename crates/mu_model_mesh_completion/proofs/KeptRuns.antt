@@ -29,6 +29,16 @@ of_all P (v ∷ xs) x all (suc k, within, is) = of_all P xs x all.1 (k, omega (a
 one_of : (outs : List MeshOutcome) (next : Mesh) (text : List ℕ) → AllKept outs → Contains outs (record { mesh = next; text = text }) → Kept next
 one_of outs next text all within = of_all (λ (o : MeshOutcome). Kept o.mesh) outs (record { mesh = next; text = text }) all within
 
+pub world_of : (m : Mesh) → Kept m → IsWorld m
+world_of m k = record {
+  nodes = λ a n e. (k.nodes a n e).kept;
+  updaters = λ a u e. let own = k.updaters a u e in (own.kept.from, own.no_node);
+  once = k.once;
+}
+
+pub new_kept : Kept new_mesh
+new_kept = record { nodes = λ a n e. cc; updaters = λ a u e. cc; once = tt; bag = tt; no_distributor = refl }
+
 -- ---- turns
 
 each_kept : (outs : Mesh → ℕ → List MeshOutcome) → ((m : Mesh) (a : ℕ) → Kept m → AllKept (outs m a)) → (bs : List ℕ) (m : Mesh) (text : List ℕ) (next : Mesh) → Kept m → EachComes outs bs m text next → Kept next
@@ -76,14 +86,5 @@ module _ (laws : LineLaws) where
     run_kept m [] text end k h run = subst Kept (sym run.1) k
     run_kept m (line ∷ lines) text end k h run = run_kept run.0 lines run.2 end (read_kept m line (script_event line) run.1 run.0 refl h.0 k run.3.done) h.1 run.4
 
-    new_kept : Kept new_mesh
-    new_kept = record { nodes = λ a n e. cc; updaters = λ a u e. cc; once = tt; bag = tt; no_distributor = refl }
-
     pub worlds_of_scripts : WorldsOfScripts
-    worlds_of_scripts lines text m run h =
-        let k : Kept m = run_kept new_mesh lines text m new_kept h run in
-        record {
-          nodes = λ a n e. (k.nodes a n e).kept;
-          updaters = λ a u e. let own = k.updaters a u e in (own.kept.from, own.no_node);
-          once = k.once;
-        }
+    worlds_of_scripts lines text m run h = world_of m (run_kept new_mesh lines text m new_kept h run)

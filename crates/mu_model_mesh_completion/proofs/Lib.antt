@@ -16,3 +16,4 @@ pub mod Kept
 pub mod KeptEvents
 pub mod KeptLines
 pub mod KeptRuns
+pub mod Worked

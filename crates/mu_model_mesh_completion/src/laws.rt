@@ -1,6 +1,7 @@
 //! Laws on whole updates of a script in which nothing is lost: functions that do nothing, whose contracts are proved.
 
 ghost use Rattle.mu_model_mesh_completion.specs.Laws.{PushSettles, PushSettlesNoSooner, PullSettles, PushSettleDropsNobody, PullSettleDropsNobody, WorldsOfScripts};
+ghost use Rattle.mu_model_mesh_completion.specs.Worked.{OneNode};
 
 use mu_model_client_laws::laws::{
     plans_stay, replies_are_read, requests_are_no_answers, requests_are_read,
@@ -39,9 +40,11 @@ pub fn settle_completes()
 }
 
 /// Each world of each run of a script without distributors, whatever its lines and the outcomes of its tears are, is one that these
-/// laws ask for: its nodes are sound, an updater sends from its own address, and no address stands twice.
+/// laws ask for: its nodes are sound, an updater sends from its own address, and no address stands twice. A worked row: a script of
+/// one updater and one node whose bank is one page, of which a `settle` of ten turns is asked for.
 pub fn worlds_of_scripts()
-    ensures { WorldsOfScripts }
+    ensures worlds { WorldsOfScripts }
+    ensures one_node { OneNode }
 {
     requests_are_read();
     plans_stay();

@@ -1,10 +1,11 @@
+use Rattle.mu_model_mesh_completion.proofs.KeptLines.{LineLaws}
 use Rattle.mu_model_mesh_completion.proofs.KeptRuns.{worlds_of_scripts}
+use Rattle.mu_model_mesh_completion.proofs.Worked.{one_node}
 use Rattle.mu_model_mesh_completion.proofs.laws.worlds_of_scripts.Goals as goal
 
 pub returns : goal.returns
 returns c =
-    worlds_of_scripts
-    (record {
+    let laws : LineLaws = record {
       run = record {
         all = record {
           nodes = record {
@@ -31,5 +32,5 @@ returns c =
       images = record { fit = c.images.ensures.fit; metadata = c.images.ensures.metadata };
       made = c.made.ensures.size;
       reads = c.reads_what_is_spelled.ensures;
-    })
-    c.script_event_is_in_range.ensures.range
+    } in
+    record { worlds = worlds_of_scripts laws c.script_event_is_in_range.ensures.range; one_node = one_node laws }
