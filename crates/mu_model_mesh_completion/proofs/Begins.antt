@@ -12,10 +12,11 @@ use Rattle.mu_model_told.specs.Laws.{HasNumbers}
 use Rattle.mu_model_client.specs.Begin.{is_ended, start, new_active}
 use Rattle.mu_model_client.specs.Rows.{Row}
 use Rattle.mu_model_client.specs.Client.{Client}
+use Rattle.mu_model_client_laws.specs.Laws.{BeginsSound}
 use Rattle.mu_model_updater.specs.Updater.{UpdaterLine, plan_of, updater_of, first_image}
 use Rattle.mu_model_world.specs.World as w
 use Rattle.mu_model_world.specs.World.{config_of}
-use Rattle.mu_model_mesh.specs.Mesh.{UpdaterMember, Mesh, node_at, updater_at}
+use Rattle.mu_model_mesh.specs.Mesh.{UpdaterMember, DistributorMember, Mesh, node_at, updater_at, distributor_at}
 use Rattle.mu_model_mesh.specs.MeshOutcomes.{mesh_begun}
 use Rattle.mu_model_mesh.specs.Settle.{Settles}
 use Rattle.mu_model_completion.specs.Completion as typed
@@ -28,11 +29,17 @@ use Rattle.mu_model_mesh_completion.proofs.Shown.{JobFits}
 use Rattle.mu_model_mesh_completion.proofs.Nodes.{NodeFits}
 use Rattle.mu_model_mesh_completion.proofs.Asks.{SendingFits, Indexes, ClientFits}
 use Rattle.mu_model_mesh_completion.proofs.Members.{AllLaws, MemberFits}
+use Rattle.mu_model_mesh_completion.proofs.Aims.{AimLaws, addresses_of, ClientAims, MemberAims}
 use Rattle.mu_model_mesh_completion.proofs.Worlds.{members_by, member_of, members, Stable}
 use Rattle.mu_model_mesh_completion.proofs.Happens.{Wire}
 use Rattle.mu_model_mesh_completion.proofs.Each.{all_joined}
 use Rattle.mu_model_mesh_completion.proofs.Turns.{Here, settles}
 use Rattle.mu_model_mesh_completion.proofs.Ends.{found, distinct, Rows, rows_there, drops_there}
+
+-- on destinations
+pub record Aiming : Type 0 where
+  pub laws : AimLaws
+  pub begins : BeginsSound
 
 -- ---- what the line says
 
@@ -115,12 +122,71 @@ members_fit images line m world can [] = tt
 members_fit images line m world can (b ∷ bs) =
     all_joined MemberFits (member_of m b) (flat_map (member_of m) bs) (member_fits images line m world can b (node_at m b) (updater_at m b) refl refl) (members_fit images line m world can bs)
 
-here : Images → (line : UpdaterLine) (m : Mesh) → IsWorld m → CanSettle line m → Here (mesh_begun m) (members m)
-here images line m world can = record {
+-- ---- requests go where no distributor is
+
+abbrev NoDistributorAt : Mesh → ℕ → Type 0
+NoDistributorAt m b = distributor_at m b ≡ None
+
+node_alone_by : (m : Mesh) → IsWorld m → (a : ℕ) (n : w.Member) → node_at m a ≡ Some n → (o : Option DistributorMember) → distributor_at m a ≡ o → o ≡ None
+node_alone_by m world a n at None e = refl
+node_alone_by m world a n at (Some d) e =
+    let none : node_at m a ≡ None = (world.distributors a d e).1 in
+    cc
+
+node_alone : (m : Mesh) → IsWorld m → (a : ℕ) (n : w.Member) → node_at m a ≡ Some n → NoDistributorAt m a
+node_alone m world a n at = node_alone_by m world a n at (distributor_at m a) refl
+
+receivers_alone : (line : UpdaterLine) (m : Mesh) → IsWorld m → (to : List ℕ) → AllByRecursion (settled.Takes line m) to → AllByRecursion (NoDistributorAt m) (addresses_of (NoDistributorAt m) (map new_active (map first_image to)))
+receivers_alone line m world [] h = tt
+receivers_alone line m world (a ∷ to) h = (node_alone m world a h.0.node h.0.found, receivers_alone line m world to h.1)
+
+group_alone_by : (m : Mesh) → IsWorld m → (g : ℕ) → (g ≡ 0) ⊎ (0xC000 ≤ g) → (g == 0) ≡ false → (o : Option DistributorMember) → distributor_at m g ≡ o → o ≡ None
+group_alone_by m world g some other None e = refl
+group_alone_by m world g (inl none) other (Some d) e = absurd (true_false (sym (eq-eqb g 0 none) ∙ other))
+  where
+    true_false : true ≡ false → ⊥
+    true_false k = cc
+group_alone_by m world g (inr above) other (Some d) e = let below = (world.distributors g d e).0 in absurd (omega (arith, above, below))
+
+updater_aims : BeginsSound → (line : UpdaterLine) (m : Mesh) → IsWorld m → CanSettle line m → ClientAims (NoDistributorAt m) (updater_of line).client line.content
+updater_aims begins line m world can = record {
+  addresses = receivers_alone line m world line.receivers can.takes;
+  group = λ other. group_alone_by m world line.group can.range.some_group other (distributor_at m line.group) refl;
+  queue = tt;
+  sound = begins.starts (plan_of line) (map first_image line.receivers);
+}
+
+aims_by : BeginsSound → (line : UpdaterLine) (m : Mesh) → IsWorld m → CanSettle line m → (a : ℕ) (u : UpdaterMember) → updater_at m a ≡ Some u → (t : Bool) → nat_eq a line.address ≡ t
+    → (is_ended u.updater.client.place ≡ true) ⊎ ClientAims (NoDistributorAt m) u.updater.client u.updater.image.octets
+aims_by begins line m world can a u at true t =
+    let same : a ≡ line.address = eqb-true a line.address t in
+    let own : updater_at m a ≡ Some (record { moment = can.moment; updater = updater_of line }) = subst (λ b. updater_at m b ≡ Some (record { moment = can.moment; updater = updater_of line })) (sym same) can.updater in
+    let is : record { moment = can.moment; updater = updater_of line } ≡ u = cc in
+    inr (subst (λ (x : UpdaterMember). ClientAims (NoDistributorAt m) x.updater.client x.updater.image.octets) is (updater_aims begins line m world can))
+aims_by begins line m world can a u at false t =
+    inl (can.ended a u (λ e. true_false (sym (eq-eqb a line.address e) ∙ t)) at)
+  where
+    true_false : true ≡ false → ⊥
+    true_false e = cc
+
+member_aims : BeginsSound → (line : UpdaterLine) (m : Mesh) → IsWorld m → CanSettle line m → (a : ℕ) (n : Option w.Member) (u : Option UpdaterMember) → updater_at m a ≡ u → AllByRecursion (MemberAims (NoDistributorAt m)) (members_by a n u)
+member_aims begins line m world can a (Some n) u up = (tt, tt)
+member_aims begins line m world can a None (Some u) up = (aims_by begins line m world can a u up (nat_eq a line.address) refl, tt)
+member_aims begins line m world can a None None up = tt
+
+members_aim : BeginsSound → (line : UpdaterLine) (m : Mesh) → IsWorld m → CanSettle line m → (bs : List ℕ) → AllByRecursion (MemberAims (NoDistributorAt m)) (flat_map (member_of m) bs)
+members_aim begins line m world can [] = tt
+members_aim begins line m world can (b ∷ bs) =
+    all_joined (MemberAims (NoDistributorAt m)) (member_of m b) (flat_map (member_of m) bs) (member_aims begins line m world can b (node_at m b) (updater_at m b) refl) (members_aim begins line m world can bs)
+
+here : Images → BeginsSound → (line : UpdaterLine) (m : Mesh) → IsWorld m → CanSettle line m → Here (NoDistributorAt m) (mesh_begun m) (members m)
+here images begins line m world can = record {
   is = refl;
-  stable = record { no_distributor = can.no_distributor; no_tear = can.no_tear };
+  stable = record { at_rest = can.at_rest; no_tear = can.no_tear };
   once = world.once;
   fits = members_fit images line m world can m.order;
+  aims = members_aim begins line m world can m.order;
+  no_distributor = λ b d. d;
 }
 
 -- ---- all but the updater are quiet
@@ -193,9 +259,9 @@ can_begin images line to is m world can =
       takes = all_take line m world to (subst (λ (xs : List ℕ). AllByRecursion (settled.Takes line m) xs) is can.takes);
     }
 
-module _ (laws : AllLaws) (wire : Wire) (images : Images) (line : UpdaterLine) (m next : Mesh) (text : List ℕ) (turns : ℕ) (world : IsWorld m) (can : CanSettle line m) (s : SettlesTo turns m text next) where
+module _ (laws : AllLaws) (wire : Wire) (images : Images) (aim : Aiming) (line : UpdaterLine) (m next : Mesh) (text : List ℕ) (turns : ℕ) (world : IsWorld m) (can : CanSettle line m) (s : SettlesTo turns m text next) where
   came : members next ≡ settle turns (members m)
-  came = (settles laws wire turns (mesh_begun m) text next (members m) (here images line m world can) s).is
+  came = (settles laws wire (NoDistributorAt m) aim.laws turns (mesh_begun m) text next (members m) (here images aim.begins line m world can) s).is
 
   shows : (shown : List Row) → rows_at line.address (settle turns (members m)) ≡ Some shown → Rows line next shown
   shows shown r = rows_there line next shown (at_address line.address (members next)) refl (ap (λ (xs : List Member). rows_at line.address xs) came ∙ r)
@@ -205,36 +271,36 @@ module _ (laws : AllLaws) (wire : Wire) (images : Images) (line : UpdaterLine) (
 
 -- ---- push
 
-pub push_settles : AllLaws → Wire → Images → PushCompletes → PushSettles
+pub push_settles : AllLaws → Wire → Images → Aiming → PushCompletes → PushSettles
 unfolding can_begin
-push_settles laws wire images law line m next text turns world can mode enough s =
+push_settles laws wire images aim law line m next text turns world can mode enough s =
     let done = law (plan_of line) line.content line.receivers (members m) (can_begin images line line.receivers refl m world can) mode turns enough in
-    let r = shows laws wire images line m next text turns world can s (map succeeded line.receivers) done.rows in
+    let r = shows laws wire images aim line m next text turns world can s (map succeeded line.receivers) done.rows in
     record { member = r.member; found = r.found; rows = r.rows }
 
-pub push_settles_no_sooner : AllLaws → Wire → Images → PushTakesAll → PushSettlesNoSooner
+pub push_settles_no_sooner : AllLaws → Wire → Images → Aiming → PushTakesAll → PushSettlesNoSooner
 unfolding can_begin
-push_settles_no_sooner laws wire images law line m next text world can mode group few full s =
+push_settles_no_sooner laws wire images aim law line m next text world can mode group few full s =
     let rows = law (plan_of line) line.content line.receivers (members m) (can_begin images line line.receivers refl m world can) mode group few full in
-    let r = shows laws wire images line m next text (push_turns (plan_of line).sending (length line.receivers) - 1) world can s (map applying line.receivers) rows in
+    let r = shows laws wire images aim line m next text (push_turns (plan_of line).sending (length line.receivers) - 1) world can s (map applying line.receivers) rows in
     record { member = r.member; found = r.found; rows = r.rows }
 
-pub push_drops_nobody : AllLaws → Wire → Images → PushDropsNobody → PushSettleDropsNobody
+pub push_drops_nobody : AllLaws → Wire → Images → Aiming → PushDropsNobody → PushSettleDropsNobody
 unfolding can_begin
-push_drops_nobody laws wire images law line m next text turns world can mode s =
-    nobody_dropped laws wire images line m next text turns world can s (law (plan_of line) line.content line.receivers (members m) (can_begin images line line.receivers refl m world can) mode turns)
+push_drops_nobody laws wire images aim law line m next text turns world can mode s =
+    nobody_dropped laws wire images aim line m next text turns world can s (law (plan_of line) line.content line.receivers (members m) (can_begin images line line.receivers refl m world can) mode turns)
 
 -- ---- pull
 
-pub pull_settles : AllLaws → Wire → Images → PullCompletes → PullSettles
+pub pull_settles : AllLaws → Wire → Images → Aiming → PullCompletes → PullSettles
 unfolding can_begin
-pull_settles laws wire images law line to m next text turns world can mode one enough s =
+pull_settles laws wire images aim law line to m next text turns world can mode one enough s =
     let done = law (plan_of line) line.content to (members m) (can_begin images line (to ∷ []) one m world can) mode turns enough in
-    let r = shows laws wire images line m next text turns world can s (map succeeded line.receivers) (done.rows ∙ ap (λ (xs : List ℕ). Some (map succeeded xs)) (sym one)) in
+    let r = shows laws wire images aim line m next text turns world can s (map succeeded line.receivers) (done.rows ∙ ap (λ (xs : List ℕ). Some (map succeeded xs)) (sym one)) in
     record { member = r.member; found = r.found; rows = r.rows }
 
-pub pull_drops_nobody : AllLaws → Wire → Images → PullDropsNobody → PullSettleDropsNobody
+pub pull_drops_nobody : AllLaws → Wire → Images → Aiming → PullDropsNobody → PullSettleDropsNobody
 unfolding can_begin
-pull_drops_nobody laws wire images law line to m next text turns world can mode one s =
-    nobody_dropped laws wire images line m next text turns world can s
+pull_drops_nobody laws wire images aim law line to m next text turns world can mode one s =
+    nobody_dropped laws wire images aim line m next text turns world can s
     (law (plan_of line) line.content to (members m) (can_begin images line (to ∷ []) one m world can) mode turns ∙ ap (λ (xs : List ℕ). Some (map (λ a. None) xs)) (sym one))

@@ -18,6 +18,7 @@ use Rattle.mu_model_client.specs.Due.{due}
 use Rattle.mu_model_client.specs.Packets.{request_octets, request_packet, answer_handled, client_packet}
 use Rattle.mu_model_client.specs.Told.{told}
 use Rattle.mu_model_client_laws.specs.Wire.{RequestsAreRead, RequestsAreNoAnswers, RepliesAreRead}
+use Rattle.mu_model_distributor.specs.DistEvents.{DistStep, dist_step}
 use Rattle.mu_model_updater.specs.Updater.{UpdaterStep, updater_step}
 use Rattle.mu_model_world.specs.World as w
 use Rattle.mu_model_world.specs.World.{config_of}
@@ -25,12 +26,13 @@ use Rattle.mu_model_world.specs.Outcomes as o
 use Rattle.mu_model_world.specs.Outcomes.{ran}
 use Rattle.mu_model_mesh.specs.Mesh.{UpdaterMember, DistributorMember, Mesh, node_at, updater_at, distributor_at, moment_by}
 use Rattle.mu_model_mesh.specs.MeshOutcomes as mo
-use Rattle.mu_model_mesh.specs.MeshOutcomes.{MeshOutcome, of_nodes, updater_ran, updater_later, timed_by, given_by, given_packet, unread_if}
+use Rattle.mu_model_mesh.specs.MeshOutcomes.{MeshOutcome, of_nodes, updater_ran, updater_later, dist_ran, dist_later, timed_by, given_by, given_packet, unread_if}
 use Rattle.mu_model_mesh.specs.Settle.{turn_comes}
 use Rattle.mu_model_completion.specs.Turn.{Member, Part, IsNode, IsUpdater, Body, Asks, Replies, Sent, Moved, asked_by, replied_by, stands, part_timed, timed, part_given, is_for, given_if, given}
 use Rattle.mu_model_mesh_completion.proofs.Replies.{reply_read, reply_asks_nothing}
 use Rattle.mu_model_mesh_completion.proofs.Members.{MemberFits, Handed, BodyFits, SentFits}
-use Rattle.mu_model_mesh_completion.proofs.Worlds.{members_by, member_of, body_octets, packet_of, only, none, Stable, nobody, NodeRan, node_ran, happens_only, UpdaterRan, updater_went}
+use Rattle.mu_model_mesh_completion.proofs.Worlds.{members_by, member_of, body_octets, packet_of, only, none, Stable, NoneComes, NodeRan, node_ran, happens_only, UpdaterRan, updater_went, DistRan, dist_went, dist_only}
+use Rattle.mu_model_mesh_completion.proofs.Resting.{Rests, StepRests, dist_time_rests, dist_hears, dist_passes}
 
 pub record Wire : Type 0 where
   pub grammar : GrammarHolds
@@ -46,11 +48,12 @@ pub record Does (m next : Mesh) (address : ℕ) (step : Member → Moved) : Type
   pub bag : next.nodes.bag ≡ m.nodes.bag ++ map packet_of (flat_map (λ (x : Member). (step x).sent) (member_of m address))
   pub order : next.order ≡ m.order
   pub stable : Stable next
+  pub none_comes : NoneComes m next
 
 does_at : (m next : Mesh) (address : ℕ) (step : Member → Moved) (x : Member) → member_of m address ≡ x ∷ [] → member_of next address ≡ (step x).member ∷ []
     → ((b : ℕ) → (address ≡ b → ⊥) → member_of next b ≡ member_of m b) → next.nodes.bag ≡ m.nodes.bag ++ map packet_of (step x).sent → next.order ≡ m.order → Stable next
-    → Does m next address step
-does_at m next address step x is here there bag order stable = record {
+    → NoneComes m next → Does m next address step
+does_at m next address step x is here there bag order stable none_comes = record {
   here = here ∙ sym (ap (map (λ (y : Member). (step y).member)) is);
   there = there;
   bag =
@@ -59,6 +62,7 @@ does_at m next address step x is here there bag order stable = record {
       (sym (append-nil (step x).sent) ∙ sym (ap (λ (ys : List Member). flat_map (λ (y : Member). (step y).sent) ys) is));
   order = order;
   stable = stable;
+  none_comes = none_comes;
 }
 
 replies_same : (from : ℕ) (rs : List (ℕ × Reply)) → map (reply_packet from) rs ≡ map packet_of (map (replied_by from) rs)
@@ -68,6 +72,20 @@ replies_same from (r ∷ rs) = ap (λ (ps : List Packet). reply_packet from r �
 asks_same : (from : ℕ) (xs : List (ℕ × Request)) → map (request_packet from) xs ≡ map packet_of (map (asked_by from) xs)
 asks_same from [] = refl
 asks_same from (x ∷ xs) = ap (λ (ps : List Packet). request_packet from x ∷ ps) (asks_same from xs)
+
+-- nobody is there but a distributor at rest
+does_rest : (m next : Mesh) (address : ℕ) (step : Member → Moved) → member_of m address ≡ [] → DistRan m next → Does m next address step
+does_rest m next address step is r = record {
+  here = r.same address ∙ (is ∙ sym (ap (map (λ (y : Member). (step y).member)) is));
+  there = λ b ne. r.same b;
+  bag = r.bag ∙ ap (λ (ps : List Sent). m.nodes.bag ++ map packet_of ps) (sym (ap (λ (ys : List Member). flat_map (λ (y : Member). (step y).sent) ys) is));
+  order = r.order;
+  stable = r.stable;
+  none_comes = r.none_comes;
+}
+
+nobody_else : (m : Mesh) (address : ℕ) → node_at m address ≡ None → updater_at m address ≡ None → member_of m address ≡ []
+nobody_else m address n u = ap (λ (x : Option w.Member). members_by address x (updater_at m address)) n ∙ ap (λ (x : Option UpdaterMember). members_by address None x) u
 
 -- ---- time
 
@@ -91,7 +109,7 @@ node_time m address n u d out s at h =
     r.there
     (r.bag
     ∙ ap (λ (ps : List Packet). m.nodes.bag ++ ps) (replies_same address (on_time (e.at_moment n.state later.moment) (update_phase (e.at_moment n.state later.moment))).replies ∙ ap (λ t. map packet_of (node_timed address n t).sent) moment))
-    r.order r.stable
+    r.order r.stable r.none_comes
 
 updater_time : (m : Mesh) (address : ℕ) (u : UpdaterMember) (d : Option DistributorMember) (out : MeshOutcome) → Stable m → node_at m address ≡ None → updater_at m address ≡ Some u
     → u.updater.client.sending.from ≡ address → Contains (timed_by m address (moment_by None (Some u) d + 100) None (Some u) d) out → Does m out.mesh address timed
@@ -111,17 +129,29 @@ updater_time m address u d out s nobody_there at from h =
     ∙ ap (λ (ps : List Packet). m.nodes.bag ++ ps)
     (ap (λ (a : ℕ). map (request_packet a) (due c image later.moment).packets) from
     ∙ (asks_same address (due c image later.moment).packets ∙ ap (λ t. map packet_of (map (asked_by address) (due c image t).packets)) moment)))
-    r.order r.stable
+    r.order r.stable r.none_comes
+
+dist_time : (m : Mesh) (address : ℕ) (d : DistributorMember) (out : MeshOutcome) → Stable m → node_at m address ≡ None → updater_at m address ≡ None → distributor_at m address ≡ Some d
+    → Contains (timed_by m address (d.moment + 100) None None (Some d)) out → Does m out.mesh address timed
+dist_time m address d out s no_node no_updater at h =
+    let rest = s.at_rest address d at in
+    let later : DistributorMember = dist_later (d.moment + 100) d in
+    let step : DistStep = dist_step address later.state TimeComes later.moment in
+    let rests = dist_time_rests address d.state later.moment (record { turns = rest.rests; cut = rest.no_upload }) in
+    let same : dist_ran m address later [] step ≡ out = dist_only m address later TimeComes [] out rest.no_tear h in
+    does_rest m out.mesh address timed (nobody_else m address no_node no_updater)
+    (subst (λ (x : MeshOutcome). DistRan m x.mesh) same
+    (dist_went m address d later [] step s at rests.quiet (record { rests = rests.next.turns; no_upload = rests.next.cut; no_tear = rest.no_tear })))
 
 time_by : (m : Mesh) (address : ℕ) (n : Option w.Member) (u : Option UpdaterMember) (d : Option DistributorMember) (out : MeshOutcome) → Stable m → node_at m address ≡ n → updater_at m address ≡ u
-    → d ≡ None → AllByRecursion MemberFits (members_by address n u) → Contains (timed_by m address (moment_by n u d + 100) n u d) out → Does m out.mesh address timed
-time_by m address (Some n) u d out s at up nobody_there fit h = node_time m address n u d out s at h
-time_by m address None (Some u) d out s at up nobody_there fit h = updater_time m address u d out s at up fit.0.0 h
-time_by m address None None None out s at up nobody_there fit h = absurd (none out h)
-time_by m address None None (Some d) out s at up nobody_there fit h = cc
+    → distributor_at m address ≡ d → AllByRecursion MemberFits (members_by address n u) → Contains (timed_by m address (moment_by n u d + 100) n u d) out → Does m out.mesh address timed
+time_by m address (Some n) u d out s at up there fit h = node_time m address n u d out s at h
+time_by m address None (Some u) d out s at up there fit h = updater_time m address u d out s at up fit.0.0 h
+time_by m address None None None out s at up there fit h = absurd (none out h)
+time_by m address None None (Some d) out s at up there fit h = dist_time m address d out s at up there h
 
 pub time_does : (m : Mesh) (address : ℕ) (out : MeshOutcome) → Stable m → AllByRecursion MemberFits (member_of m address) → Contains (turn_comes m address) out → Does m out.mesh address timed
-time_does m address out s fit h = time_by m address (node_at m address) (updater_at m address) (distributor_at m address) out s refl refl (nobody m s address) fit h
+time_does m address out s fit h = time_by m address (node_at m address) (updater_at m address) (distributor_at m address) out s refl refl refl fit h
 
 -- ---- packets
 
@@ -175,7 +205,7 @@ node_packet wire m number address n p first out s at fit its handed h =
     (r.bag
     ∙ ap (λ (ps : List Packet). m.nodes.bag ++ ps)
     (ap (λ (st : NodeStep). st.sent) does ∙ (moved.1 ∙ sym (ap (λ (g : Moved). map packet_of g.sent) goes))))
-    r.order r.stable
+    r.order r.stable r.none_comes
 
 -- what a client is left with after a packet that is addressed to it; it sends nothing
 abbrev client_after : Client → ℕ → ℕ → Body → Client
@@ -227,7 +257,7 @@ updater_packet wire m number address u p first out s nobody_there at fit to from
     (r.bag
     ∙ ap (λ (ps : List Packet). m.nodes.bag ++ ps)
     (does.1 ∙ ap (λ (ps : List Sent). map packet_of ps) (moved.1 ∙ sym (ap (λ (g : Moved). g.sent) goes))))
-    r.order r.stable
+    r.order r.stable r.none_comes
 
 -- a member to which a packet is addressed
 pub record Takes (p : Sent) (x : Member) : Type 0 where
@@ -235,17 +265,53 @@ pub record Takes (p : Sent) (x : Member) : Type 0 where
   pub handed : Handed x
   pub its : is_for x p ≡ true
 
-packet_by : Wire → (m : Mesh) (number address : ℕ) (p : Sent) (n : Option w.Member) (u : Option UpdaterMember) (d : Option DistributorMember) (out : MeshOutcome) → Stable m
-    → node_at m address ≡ n → updater_at m address ≡ u → d ≡ None → SentFits p → AllByRecursion (Takes p) (members_by address n u)
-    → Contains (given_by m number address (packet_of p) n u d) out → Does m out.mesh address (given p)
-packet_by wire m number address p (Some n) u d out s at up nobody_there fit t h = node_packet wire m number address n p _ out s at fit t.0.its t.0.handed h
-packet_by wire m number address p None (Some u) d out s at up nobody_there fit t h =
-    updater_packet wire m number address u p _ out s at up fit (or_false (p.to == address) t.0.its) t.0.fits.0 t.0.handed t.0.its h
-packet_by wire m number address p None None None out s at up nobody_there fit t h = absurd (none out h)
-packet_by wire m number address p None None (Some d) out s at up nobody_there fit t h = cc
+-- a request goes to no distributor
+abbrev pub BodyAimed : Mesh → ℕ → Body → Type 0
+BodyAimed m to (Asks request) = distributor_at m to ≡ None
+BodyAimed m to (Replies reply) = Unit {0}
 
-pub packet_does : Wire → (m : Mesh) (number address : ℕ) (p : Sent) (out : MeshOutcome) → Stable m → slice_get m.nodes.bag number ≡ Some (packet_of p) → SentFits p
+abbrev pub Aimed : Mesh → Sent → Type 0
+Aimed m p = BodyAimed m p.to p.body
+
+not_asked : (m : Mesh) (address : ℕ) (d : DistributorMember) (p : Sent) (t : Bool) → (p.to == address) ≡ t → distributor_at m p.to ≡ None → distributor_at m address ≡ Some d → Rests d.state
+    → StepRests (dist_step address d.state (PacketComes (packet_of p)) d.moment)
+not_asked m address d p true t aimed at h =
+    let same : p.to ≡ address = eqb-true p.to address t in
+    let there : distributor_at m p.to ≡ Some d = subst (λ a. distributor_at m a ≡ Some d) (sym same) at in
+    absurd (none_some (sym aimed ∙ there))
+  where
+    none_some : {A : Type 0} {a : A} → None ≡ Some a → ⊥
+    none_some e = cc
+not_asked m address d p false t aimed at h = dist_passes address d.state d.moment (packet_of p) t h
+
+dist_body : Wire → (m : Mesh) (address : ℕ) (d : DistributorMember) (p : Sent) (body : Body) → BodyFits body → BodyAimed m p.to body → distributor_at m address ≡ Some d → Rests d.state
+    → StepRests (dist_step address d.state (PacketComes (packet_of (record p { body = body }))) d.moment)
+dist_body wire m address d p (Asks request) fit aimed at h = not_asked m address d (record p { body = Asks request }) (p.to == address) refl aimed at h
+dist_body wire m address d p (Replies reply) fit aimed at h =
+    dist_hears wire.grammar wire.canonical address d.state d.moment (packet_of (record p { body = Replies reply })) reply refl fit h
+
+dist_packet : Wire → (m : Mesh) (address : ℕ) (d : DistributorMember) (p : Sent) (first : List ℕ) (out : MeshOutcome) → Stable m → node_at m address ≡ None → updater_at m address ≡ None → distributor_at m address ≡ Some d
+    → SentFits p → Aimed m p → Contains (mo.dist_happens m address d (PacketComes (packet_of p)) first) out → Does m out.mesh address (given p)
+dist_packet wire m address d p first out s no_node no_updater at fit aimed h =
+    let rest = s.at_rest address d at in
+    let step : DistStep = dist_step address d.state (PacketComes (packet_of p)) d.moment in
+    let rests = dist_body wire m address d p p.body fit aimed at (record { turns = rest.rests; cut = rest.no_upload }) in
+    let same : dist_ran m address d first step ≡ out = dist_only m address d (PacketComes (packet_of p)) first out rest.no_tear h in
+    does_rest m out.mesh address (given p) (nobody_else m address no_node no_updater)
+    (subst (λ (x : MeshOutcome). DistRan m x.mesh) same
+    (dist_went m address d d first step s at rests.quiet (record { rests = rests.next.turns; no_upload = rests.next.cut; no_tear = rest.no_tear })))
+
+packet_by : Wire → (m : Mesh) (number address : ℕ) (p : Sent) (n : Option w.Member) (u : Option UpdaterMember) (d : Option DistributorMember) (out : MeshOutcome) → Stable m
+    → node_at m address ≡ n → updater_at m address ≡ u → distributor_at m address ≡ d → SentFits p → Aimed m p → AllByRecursion (Takes p) (members_by address n u)
+    → Contains (given_by m number address (packet_of p) n u d) out → Does m out.mesh address (given p)
+packet_by wire m number address p (Some n) u d out s at up there fit aimed t h = node_packet wire m number address n p _ out s at fit t.0.its t.0.handed h
+packet_by wire m number address p None (Some u) d out s at up there fit aimed t h =
+    updater_packet wire m number address u p _ out s at up fit (or_false (p.to == address) t.0.its) t.0.fits.0 t.0.handed t.0.its h
+packet_by wire m number address p None None None out s at up there fit aimed t h = absurd (none out h)
+packet_by wire m number address p None None (Some d) out s at up there fit aimed t h = dist_packet wire m address d p (mo.unread_if number address (dist_step address d.state (PacketComes (packet_of p)) d.moment).handled) out s at up there fit aimed h
+
+pub packet_does : Wire → (m : Mesh) (number address : ℕ) (p : Sent) (out : MeshOutcome) → Stable m → slice_get m.nodes.bag number ≡ Some (packet_of p) → SentFits p → Aimed m p
     → AllByRecursion (Takes p) (member_of m address) → Contains (mo.given m number address) out → Does m out.mesh address (given p)
-packet_does wire m number address p out s at fit t h =
-    packet_by wire m number address p (node_at m address) (updater_at m address) (distributor_at m address) out s refl refl (nobody m s address) fit t
+packet_does wire m number address p out s at fit aimed t h =
+    packet_by wire m number address p (node_at m address) (updater_at m address) (distributor_at m address) out s refl refl refl fit aimed t
     (subst (λ (x : Option Packet). Contains (given_packet m number address x) out) at h)

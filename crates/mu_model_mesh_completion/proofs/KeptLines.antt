@@ -86,7 +86,7 @@ shown_kept : (m : Mesh) (number : ℕ) (packet : Option Packet) → Kept m → A
 shown_kept m number (Some packet) k = (k, tt)
 shown_kept m number None k = tt
 
-nobody_at : (m : Mesh) (a : ℕ) → Kept m → distributor_at m a ≡ None
+pub nobody_at : (m : Mesh) (a : ℕ) → Kept m → distributor_at m a ≡ None
 nobody_at m a k = ap (λ (ds : List (ℕ × DistributorMember)). lookup (nat_eq a) ds) k.no_distributor
 
 stocked_kept : (m : Mesh) (a version : ℕ) (content : Content) (d : Option DistributorMember) → d ≡ None → AllKept (stocked_by m a version content d)
@@ -203,6 +203,7 @@ module _ (laws : LineLaws) where
       record {
         address = omega (arith, small);
         id = omega (arith, own);
+        some_group = some_group group h.group_in;
         ttl = omega (arith, hops);
         base = omega (arith, late);
         mode_least = h.mode_in.0;

@@ -1,5 +1,5 @@
 -- Each world of each run of a script without distributors is as the laws on `settle` ask.
-use Rattle.std.proofs.Common.{◌≡◌, ◌<◌, ◌+◌, ℕ, zero, suc, Bool, true, false, List, [], ◌∷◌, ◌++◌, refl, sym, ap, subst, arith, append-nil, Option, Some, None, Result, Ok, Err}
+use Rattle.std.proofs.Common.{◌≡◌, ◌<◌, ◌+◌, ℕ, zero, suc, Bool, true, false, List, [], ◌∷◌, ◌++◌, refl, sym, ap, subst, ◌∙◌, arith, append-nil, Option, Some, None, Result, Ok, Err}
 use Rattle.std.specs.Prelude.{Contains}
 use Rattle.std.specs.List.{AllByRecursion}
 use Rattle.mu_model_script.specs.Event.{Event, Node, Old, Pair, Updater, Distributor, Stock, Say, Deliver, Time, Cut, Tear, Active, Phase, Settle, Rows, Packet}
@@ -17,7 +17,7 @@ use Rattle.mu_model_mesh_completion.specs.Settled.{IsWorld}
 use Rattle.mu_model_mesh_completion.specs.Laws.{NoDistributor, WorldsOfScripts}
 use Rattle.mu_model_mesh_completion.proofs.Kept.{Kept, nothing_kept}
 use Rattle.mu_model_mesh_completion.proofs.KeptEvents.{AllKept, given_kept, time_kept}
-use Rattle.mu_model_mesh_completion.proofs.KeptLines.{LineLaws, IsNoDistributor, begun_kept, line_kept}
+use Rattle.mu_model_mesh_completion.proofs.KeptLines.{LineLaws, IsNoDistributor, begun_kept, nobody_at, line_kept}
 
 of_all : {X : Type 0} (P : X → Type 0) (xs : List X) (x : X) → AllByRecursion P xs → Contains xs x → P x
 of_all P [] x all p =
@@ -29,10 +29,14 @@ of_all P (v ∷ xs) x all (suc k, within, is) = of_all P xs x all.1 (k, omega (a
 one_of : (outs : List MeshOutcome) (next : Mesh) (text : List ℕ) → AllKept outs → Contains outs (record { mesh = next; text = text }) → Kept next
 one_of outs next text all within = of_all (λ (o : MeshOutcome). Kept o.mesh) outs (record { mesh = next; text = text }) all within
 
+none_some : {A : Type 0} {a : A} → None ≡ Some a → ⊥
+none_some e = cc
+
 pub world_of : (m : Mesh) → Kept m → IsWorld m
 world_of m k = record {
   nodes = λ a n e. (k.nodes a n e).kept;
   updaters = λ a u e. let own = k.updaters a u e in (own.kept.from, own.no_node);
+  distributors = λ a d e. absurd (none_some (sym (nobody_at m a k) ∙ e));
   once = k.once;
 }
 

@@ -17,3 +17,5 @@ pub mod KeptEvents
 pub mod KeptLines
 pub mod KeptRuns
 pub mod Worked
+pub mod Resting
+pub mod Aims

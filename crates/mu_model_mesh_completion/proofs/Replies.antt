@@ -1,5 +1,5 @@
 -- A reply in the ranges of the grammar is read by a client as what it says, and by no node as a request.
-use Rattle.std.proofs.Common.{◌≡◌, ◌<◌, ◌≤◌, ◌^◌, ◌*◌, ℕ, suc, Bool, true, false, List, [], ◌∷◌, ◌++◌, length, map, refl, sym, ap, subst, ◌∙◌, arith, length-append, append-nil, Option, Some, None, inl, inr}
+use Rattle.std.proofs.Common.{◌≡◌, ◌<◌, ◌≤◌, ◌^◌, ◌*◌, ℕ, suc, Bool, true, false, List, [], ◌∷◌, ◌++◌, length, map, refl, sym, ap, subst, ◌∙◌, arith, length-append, append-nil, Option, Some, None, Ok, inl, inr}
 use Rattle.std.specs.Prelude.{◌==◌, nat_lt}
 use Rattle.std.specs.List.{AllByRecursion}
 use Rattle.std.proofs.lemmas.Bool.{ne_eqb, lt-ltb, le-ltb, cases_lt}
@@ -11,6 +11,7 @@ use Rattle.mu_model_wire.specs.Patterns.{pattern_spelling, list_spelling}
 use Rattle.mu_model_wire.specs.Reports.{bit_field, field_length, shown_numbers}
 use Rattle.mu_model_wire.specs.Spelling.{Fits, EntriesFit, entry_spelling, entries_spelling}
 use Rattle.mu_model_wire.specs.Table.{rows}
+use Rattle.mu_model_wire.specs.Reading.{message_at}
 use Rattle.mu_model_wire.specs.Update.{entry_fields}
 use Rattle.mu_model_wire.specs.Laws.{CanonicalIsRead, GrammarHolds}
 use Rattle.mu_model_wire.specs.declared.reports.Report.{Report}
@@ -200,3 +201,6 @@ no_request (ByBlob (PartialBlockReport chunks)) = refl
 
 pub reply_asks_nothing : GrammarHolds → CanonicalIsRead → (reply : Reply) → ReplyFits reply → request_at (reply_octets reply) ≡ None
 reply_asks_nothing grammar again reply h = ap request_in (again rows (message_of reply) grammar (reply_fits reply h)) ∙ no_request reply
+
+pub reply_message_read : GrammarHolds → CanonicalIsRead → (reply : Reply) → ReplyFits reply → message_at rows (reply_octets reply) ≡ Ok (message_of reply)
+reply_message_read grammar again reply h = again rows (message_of reply) grammar (reply_fits reply h)

@@ -7,13 +7,14 @@ use Rattle.mu_model_wire.specs.Packet.{Packet}
 use Rattle.mu_model_node.specs.NodeState.{NodeState}
 use Rattle.mu_model_client.specs.Client.{Client}
 use Rattle.mu_model_world.specs.World as w
-use Rattle.mu_model_mesh.specs.Mesh.{UpdaterMember, Mesh, node_at, updater_at, takes_by, takes, addressees}
+use Rattle.mu_model_mesh.specs.Mesh.{UpdaterMember, Mesh, node_at, updater_at, distributor_at, takes_by, takes, addressees}
 use Rattle.mu_model_mesh.specs.Settle.{turn_comes, EachComes, given_to, AllComes, none_left, comes, Turns, Settles}
 use Rattle.mu_model_completion.specs.Completion.{NoneTwice}
 use Rattle.mu_model_completion.specs.Turn.{Member, Part, IsNode, IsUpdater, Body, Asks, Replies, Sent, Moved, stands, timed, node_given, updater_given, part_given, is_for, given_if, given, after_packet, answers_to, delivered, answers, after_time, sent_in_time, deliveries, turn, settle}
 use Rattle.mu_model_mesh_completion.proofs.Members.{AllLaws, MemberFits, Handed, BodyAnswers, SentFits, IsAnswer, answers_fit, member_time, member_packet}
-use Rattle.mu_model_mesh_completion.proofs.Worlds.{members_by, member_of, members, packet_of, Stable}
-use Rattle.mu_model_mesh_completion.proofs.Happens.{Wire, Does, Takes, time_does, packet_does}
+use Rattle.mu_model_mesh_completion.proofs.Aims.{AimLaws, MemberAims, BodyAims, SentAims, member_time_aims, member_packet_aims, answers_aim}
+use Rattle.mu_model_mesh_completion.proofs.Worlds.{members_by, member_of, members, packet_of, Stable, NoneComes}
+use Rattle.mu_model_mesh_completion.proofs.Happens.{Wire, Does, Takes, BodyAimed, Aimed, time_does, packet_does}
 use Rattle.mu_model_mesh_completion.proofs.Each.{map_joined, all_joined, all_parts, IsTried, Goes, each_goes}
 
 -- ---- members that were handed their moments
@@ -23,19 +24,24 @@ pub record Ready (x : Member) : Type 0 where
   pub handed : Handed x
 
 -- where a world stands
-pub record Here (m : Mesh) (ms : List Member) : Type 0 where
+pub record Here (D : ℕ → Type 0) (m : Mesh) (ms : List Member) : Type 0 where
   pub is : members m ≡ ms
   pub stable : Stable m
   pub once : NoneTwice m.order
   pub fits : AllByRecursion MemberFits ms
+  -- requests go where no distributor is
+  pub aims : AllByRecursion (MemberAims D) ms
+  pub no_distributor : (b : ℕ) → D b → distributor_at m b ≡ None
 
-here_after : (m next : Mesh) (ms : List Member) (step : Member → Moved) → Here m ms → Goes m next m.order step
-    → AllByRecursion MemberFits (map (λ (x : Member). (step x).member) ms) → Here next (map (λ (x : Member). (step x).member) ms)
-here_after m next ms step h g fits = record {
+here_after : (D : ℕ → Type 0) (m next : Mesh) (ms : List Member) (step : Member → Moved) → Here D m ms → Goes m next m.order step
+    → AllByRecursion MemberFits (map (λ (x : Member). (step x).member) ms) → AllByRecursion (MemberAims D) (map (λ (x : Member). (step x).member) ms) → Here D next (map (λ (x : Member). (step x).member) ms)
+here_after D m next ms step h g fits aims = record {
   is = ap (λ (order : List ℕ). flat_map (member_of next) order) g.order ∙ (g.done ∙ ap (map (λ (x : Member). (step x).member)) h.is);
   stable = g.stable;
   once = subst NoneTwice (sym g.order) h.once;
   fits = fits;
+  aims = aims;
+  no_distributor = λ b d. g.none_comes b (h.no_distributor b d);
 }
 
 ready_fits : (ms : List Member) → AllByRecursion Ready ms → AllByRecursion MemberFits ms
@@ -48,7 +54,7 @@ filter_all : (bs : List ℕ) → filter (λ b. true) bs ≡ bs
 filter_all [] = refl
 filter_all (b ∷ bs) = ap (λ cs. b ∷ cs) (filter_all bs)
 
-module _ (laws : AllLaws) (wire : Wire) where
+module _ (laws : AllLaws) (wire : Wire) (D : ℕ → Type 0) (aim : AimLaws) where
   times_ready : (ms : List Member) → AllByRecursion MemberFits ms → AllByRecursion Ready (map after_time ms)
   times_ready [] h = tt
   times_ready (x ∷ ms) h = let t = member_time laws x h.0 in (record { fits = t.member; handed = t.handed }, times_ready ms h.1)
@@ -57,7 +63,15 @@ module _ (laws : AllLaws) (wire : Wire) where
   times_send [] h = tt
   times_send (x ∷ ms) h = all_joined SentFits (sent_in_time x) (flat_map sent_in_time ms) (member_time laws x h.0).sent (times_send ms h.1)
 
-  time_goes : (m mid : Mesh) (text : List ℕ) (ms : List Member) → Here m ms → EachComes turn_comes m.order m text mid → Goes m mid m.order timed
+  times_aim : (ms : List Member) → AllByRecursion (MemberAims D) ms → AllByRecursion (MemberAims D) (map after_time ms)
+  times_aim [] h = tt
+  times_aim (x ∷ ms) h = ((member_time_aims D aim x h.0).member, times_aim ms h.1)
+
+  sends_aim : (ms : List Member) → AllByRecursion (MemberAims D) ms → AllByRecursion (SentAims D) (flat_map sent_in_time ms)
+  sends_aim [] h = tt
+  sends_aim (x ∷ ms) h = all_joined (SentAims D) (sent_in_time x) (flat_map sent_in_time ms) (member_time_aims D aim x h.0).sent (sends_aim ms h.1)
+
+  time_goes : (m mid : Mesh) (text : List ℕ) (ms : List Member) → Here D m ms → EachComes turn_comes m.order m text mid → Goes m mid m.order timed
   time_goes m mid text ms h e =
       each_goes timed turn_comes MemberFits (λ x. Unit {0}) (λ x a out s q fit k. time_does x a out s fit k) (λ x y a d q. q) (λ a. true) m.order m text mid h.stable tt h.once
       (all_parts MemberFits (member_of m) m.order (subst (λ xs. AllByRecursion MemberFits xs) (sym h.is) h.fits))
@@ -89,12 +103,27 @@ module _ (laws : AllLaws) (wire : Wire) where
   slice_longer (y ∷ xs) ys zero x h = h
   slice_longer (y ∷ xs) ys (suc k) x h = slice_longer xs ys k x h
 
-  packet_goes : (m mid : Mesh) (number : ℕ) (text : List ℕ) (p : Sent) (ms : List Member) → Here m ms → AllByRecursion Ready ms → SentFits p → slice_get m.nodes.bag number ≡ Some (packet_of p)
+  aimed : (m : Mesh) (to : ℕ) (body : Body) → ((b : ℕ) → D b → distributor_at m b ≡ None) → BodyAims D to body → BodyAimed m to body
+  aimed m to (Asks request) h k = h to k
+  aimed m to (Replies reply) h k = tt
+
+  aimed_still : (m next : Mesh) (to : ℕ) (body : Body) → NoneComes m next → BodyAimed m to body → BodyAimed next to body
+  aimed_still m next to (Asks request) h k = h to k
+  aimed_still m next to (Replies reply) h k = tt
+
+  record Waits (number : ℕ) (p : Sent) (m : Mesh) : Type 0 where
+    at : slice_get m.nodes.bag number ≡ Some (packet_of p)
+    aims : Aimed m p
+
+  packet_goes : (m mid : Mesh) (number : ℕ) (text : List ℕ) (p : Sent) (ms : List Member) → Here D m ms → AllByRecursion Ready ms → SentFits p → SentAims D p → slice_get m.nodes.bag number ≡ Some (packet_of p)
       → EachComes (given_to number) (addressees m (packet_of p)) m text mid → Goes m mid m.order (given p)
-  packet_goes m mid number text p ms h ready fit at e =
-      each_goes (given p) (given_to number) (Takes p) (λ x. slice_get x.nodes.bag number ≡ Some (packet_of p)) (λ x a out s q t k. packet_does wire x number a p out s q fit t k)
-      (λ x y a d q. ap (λ (bag : List Packet). slice_get bag number) d.bag ∙ slice_longer x.nodes.bag _ number (packet_of p) q)
-      (takes m (packet_of p)) m.order m text mid h.stable at h.once
+  packet_goes m mid number text p ms h ready fit to at e =
+      each_goes (given p) (given_to number) (Takes p) (Waits number p) (λ x a out s q t k. packet_does wire x number a p out s q.at fit q.aims t k)
+      (λ x y a d q. record {
+        at = ap (λ (bag : List Packet). slice_get bag number) d.bag ∙ slice_longer x.nodes.bag _ number (packet_of p) q.at;
+        aims = aimed_still x y p.to p.body d.none_comes q.aims;
+      })
+      (takes m (packet_of p)) m.order m text mid h.stable (record { at = at; aims = aimed m p.to p.body h.no_distributor to }) h.once
       (all_tried m p m.order (all_parts Ready (member_of m) m.order (subst (λ xs. AllByRecursion Ready xs) (sym h.is) ready))) e
 
   -- ---- what is left of the bag
@@ -134,20 +163,24 @@ module _ (laws : AllLaws) (wire : Wire) where
   packets_answered p [] k h = tt
   packets_answered p (x ∷ ms) k h = all_joined IsAnswer (answers_to p x) (flat_map (answers_to p) ms) (member_packet laws p x k h.0.fits h.0.handed).sent (packets_answered p ms k h.1)
 
+  packets_aim : (p : Sent) (ms : List Member) → AllByRecursion (MemberAims D) ms → AllByRecursion (MemberAims D) (map (after_packet p) ms)
+  packets_aim p [] h = tt
+  packets_aim p (x ∷ ms) h = (member_packet_aims D aim p x h.0, packets_aim p ms h.1)
+
   pub record Took (mid : Mesh) (number : ℕ) (p : Sent) (ps : List Sent) (ms : List Member) : Type 0 where
-    pub here : Here mid (map (after_packet p) ms)
+    pub here : Here D mid (map (after_packet p) ms)
     pub ready : AllByRecursion Ready (map (after_packet p) ms)
     pub pending : Pending mid (number + 1) (ps ++ flat_map (answers_to p) ms)
 
-  one_packet : (m mid : Mesh) (number : ℕ) (text : List ℕ) (p : Sent) (ps : List Sent) (ms : List Member) (packet : Packet) → Here m ms → AllByRecursion Ready ms → SentFits p → Pending m number (p ∷ ps)
+  one_packet : (m mid : Mesh) (number : ℕ) (text : List ℕ) (p : Sent) (ps : List Sent) (ms : List Member) (packet : Packet) → Here D m ms → AllByRecursion Ready ms → SentFits p → SentAims D p → Pending m number (p ∷ ps)
       → slice_get m.nodes.bag number ≡ Some packet → EachComes (given_to number) (addressees m packet) m text mid → Took mid number p ps ms
-  one_packet m mid number text p ps ms packet h ready fit pending at e =
+  one_packet m mid number text p ps ms packet h ready fit to pending at e =
       let own : slice_get m.nodes.bag number ≡ Some (packet_of p) = first_pending m number p ps pending in
       let same : packet ≡ packet_of p = cc in
-      let goes : Goes m mid m.order (given p) = packet_goes m mid number text p ms h ready fit own (subst (λ (x : Packet). EachComes (given_to number) (addressees m x) m text mid) same e) in
+      let goes : Goes m mid m.order (given p) = packet_goes m mid number text p ms h ready fit to own (subst (λ (x : Packet). EachComes (given_to number) (addressees m x) m text mid) same e) in
       let after = packets_ready p ms fit ready in
       record {
-        here = here_after m mid ms (given p) h goes (ready_fits (map (after_packet p) ms) after);
+        here = here_after D m mid ms (given p) h goes (ready_fits (map (after_packet p) ms) after) (packets_aim p ms h.aims);
         ready = after;
         pending = next_pending m mid number p ps (flat_map (answers_to p) ms) pending (goes.bag ∙ ap (λ (xs : List Member). m.nodes.bag ++ map packet_of (flat_map (answers_to p) xs)) h.is);
       }
@@ -191,49 +224,49 @@ module _ (laws : AllLaws) (wire : Wire) where
   silent p (x ∷ ms) h = rw (silent_if x p (is_for x p) h, silent p ms h) refl
 
   pub record Came (last : Mesh) (ms : List Member) : Type 0 where
-    pub here : Here last ms
+    pub here : Here D last ms
     pub ready : AllByRecursion Ready ms
 
-  answers_come : (rs : List Sent) (number : ℕ) (m : Mesh) (text : List ℕ) (last : Mesh) (ms : List Member) → Here m ms → AllByRecursion Ready ms → AllByRecursion IsAnswer rs → Pending m number rs
+  answers_come : (rs : List Sent) (number : ℕ) (m : Mesh) (text : List ℕ) (last : Mesh) (ms : List Member) → Here D m ms → AllByRecursion Ready ms → AllByRecursion IsAnswer rs → Pending m number rs
       → AllComes number m text last → Came last (delivered rs ms)
   answers_come [] number m text last ms h ready fit pending (none_left past) = record { here = h; ready = ready }
   answers_come [] number m text last ms h ready fit pending (comes first rest packet at e more) = absurd (nothing_left m number packet pending at)
   answers_come (r ∷ rs) number m text last ms h ready fit pending (none_left past) = absurd (something_left m number r rs pending past)
   answers_come (r ∷ rs) number m text last ms h ready fit pending (comes {mid = mid} first rest packet at e more) =
-      let took = one_packet m mid number first r rs ms packet h ready (answers_fit (r ∷ []) (fit.0, tt)).0 pending at e in
+      let took = one_packet m mid number first r rs ms packet h ready (answers_fit (r ∷ []) (fit.0, tt)).0 (answers_aim D (r ∷ []) (fit.0, tt)).0 pending at e in
       answers_come rs (number + 1) mid rest last (map (after_packet r) ms) took.here took.ready fit.1
       (subst (Pending mid (number + 1)) (ap (λ (xs : List Sent). rs ++ xs) (silent r ms fit.0) ∙ append-nil rs) took.pending) more
 
   -- ---- what the time events sent, and the answers to it
 
-  all_come : (ps rs : List Sent) (number : ℕ) (m : Mesh) (text : List ℕ) (last : Mesh) (ms : List Member) → Here m ms → AllByRecursion Ready ms → AllByRecursion SentFits ps → AllByRecursion IsAnswer rs
+  all_come : (ps rs : List Sent) (number : ℕ) (m : Mesh) (text : List ℕ) (last : Mesh) (ms : List Member) → Here D m ms → AllByRecursion Ready ms → AllByRecursion SentFits ps → AllByRecursion (SentAims D) ps → AllByRecursion IsAnswer rs
       → Pending m number (ps ++ rs) → AllComes number m text last → Came last (delivered (rs ++ answers ps ms) (delivered ps ms))
-  all_come [] rs number m text last ms h ready fit answer pending e =
+  all_come [] rs number m text last ms h ready fit to answer pending e =
       subst (λ (xs : List Sent). Came last (delivered xs ms)) (sym (append-nil rs)) (answers_come rs number m text last ms h ready answer pending e)
-  all_come (p ∷ ps) rs number m text last ms h ready fit answer pending (none_left past) = absurd (something_left m number p (ps ++ rs) pending past)
-  all_come (p ∷ ps) rs number m text last ms h ready fit answer pending (comes {mid = mid} first rest packet at e more) =
-      let took = one_packet m mid number first p (ps ++ rs) ms packet h ready fit.0 pending at e in
+  all_come (p ∷ ps) rs number m text last ms h ready fit to answer pending (none_left past) = absurd (something_left m number p (ps ++ rs) pending past)
+  all_come (p ∷ ps) rs number m text last ms h ready fit to answer pending (comes {mid = mid} first rest packet at e more) =
+      let took = one_packet m mid number first p (ps ++ rs) ms packet h ready fit.0 to.0 pending at e in
       let sent : List Sent = flat_map (answers_to p) ms in
-      let came = all_come ps (rs ++ sent) (number + 1) mid rest last (map (after_packet p) ms) took.here took.ready fit.1 (all_joined IsAnswer rs sent answer (packets_answered p ms fit.0 ready))
+      let came = all_come ps (rs ++ sent) (number + 1) mid rest last (map (after_packet p) ms) took.here took.ready fit.1 to.1 (all_joined IsAnswer rs sent answer (packets_answered p ms fit.0 ready))
       (subst (Pending mid (number + 1)) (append_assoc ps rs sent) took.pending) more in
       subst (λ (xs : List Sent). Came last (delivered xs (delivered ps (map (after_packet p) ms)))) (append_assoc rs sent (answers ps (map (after_packet p) ms))) came
 
   -- ---- turns
 
-  pub turn_goes : (m next : Mesh) (text : List ℕ) (ms : List Member) → Here m ms → Turns m text next → Here next (turn ms)
+  pub turn_goes : (m next : Mesh) (text : List ℕ) (ms : List Member) → Here D m ms → Turns m text next → Here D next (turn ms)
   turn_goes m next text ms h t =
       let goes : Goes m t.mid m.order timed = time_goes m t.mid t.first ms h t.time in
       let ready = times_ready ms h.fits in
       let sent : List Sent = flat_map sent_in_time ms in
-      let here : Here t.mid (map after_time ms) = here_after m t.mid ms timed h goes (ready_fits (map after_time ms) ready) in
+      let here : Here D t.mid (map after_time ms) = here_after D m t.mid ms timed h goes (ready_fits (map after_time ms) ready) (times_aim ms h.aims) in
       let bag : t.mid.nodes.bag ≡ m.nodes.bag ++ map packet_of sent = goes.bag ∙ ap (λ (xs : List Member). m.nodes.bag ++ map packet_of (flat_map sent_in_time xs)) h.is in
       let pending : Pending t.mid (length m.nodes.bag) (sent ++ []) =
       record { before = m.nodes.bag; bag = bag ∙ ap (λ (xs : List Sent). m.nodes.bag ++ map packet_of xs) (sym (append-nil sent)); number_is = refl } in
-      let came : Came t.last (deliveries sent (map after_time ms)) = all_come sent [] (length m.nodes.bag) t.mid t.rest t.last (map after_time ms) here ready (times_send ms h.fits) tt pending t.packets in
+      let came : Came t.last (deliveries sent (map after_time ms)) = all_come sent [] (length m.nodes.bag) t.mid t.rest t.last (map after_time ms) here ready (times_send ms h.fits) (sends_aim ms h.aims) tt pending t.packets in
       let k = came.here in
-      subst (λ (x : Mesh). Here x (turn ms)) (sym t.counted)
-      (record { is = k.is; stable = record { no_distributor = k.stable.no_distributor; no_tear = k.stable.no_tear }; once = k.once; fits = k.fits })
+      subst (λ (x : Mesh). Here D x (turn ms)) (sym t.counted)
+      (record { is = k.is; stable = record { at_rest = k.stable.at_rest; no_tear = k.stable.no_tear }; once = k.once; fits = k.fits; aims = k.aims; no_distributor = k.no_distributor })
 
-  pub settles : (n : ℕ) (m : Mesh) (text : List ℕ) (next : Mesh) (ms : List Member) → Here m ms → Settles n m text next → Here next (settle n ms)
-  settles zero m text next ms h s = subst (λ (x : Mesh). Here x ms) (sym s.1) h
+  pub settles : (n : ℕ) (m : Mesh) (text : List ℕ) (next : Mesh) (ms : List Member) → Here D m ms → Settles n m text next → Here D next (settle n ms)
+  settles zero m text next ms h s = subst (λ (x : Mesh). Here D x ms) (sym s.1) h
   settles (suc n) m text next ms h s = settles n s.0 s.2 next (turn ms) (turn_goes m s.0 s.1 ms h s.3) s.4

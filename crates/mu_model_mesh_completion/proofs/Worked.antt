@@ -62,7 +62,7 @@ one_node laws =
         updater = refl;
         takes = (record { member = refl; node = _; found = refl; idle = refl; active = _; others = []; images = refl; older = omega arith; room = omega arith; in_group = inl refl }, tt);
         ended = λ a u ne e. ended_by (nat_eq a 1) a _ u refl ne e;
-        no_distributor = refl;
+        at_rest = λ a d e. cc;
         no_tear = λ a n e. no_tear_by (nat_eq a 2) _ n refl e;
       };
       turns = refl;

@@ -9,11 +9,13 @@ use Rattle.mu_model_node.specs.Events.{NodeEvent, NodeStep, node_step}
 use Rattle.mu_model_node.specs.NodeMessages.{reply_octets}
 use Rattle.mu_model_client.specs.Packets.{request_octets}
 use Rattle.mu_model_updater.specs.Updater.{UpdaterStep}
+use Rattle.mu_model_distributor.specs.DistEvents.{DistStep, dist_step}
 use Rattle.mu_model_world.specs.World as w
 use Rattle.mu_model_world.specs.World.{Tear, config_of}
 use Rattle.mu_model_world.specs.Outcomes.{ran, happens, happens_by}
 use Rattle.mu_model_mesh.specs.Mesh.{UpdaterMember, DistributorMember, Mesh, node_at, updater_at, distributor_at}
-use Rattle.mu_model_mesh.specs.MeshOutcomes.{MeshOutcome, of_nodes, all_of_nodes, updater_ran}
+use Rattle.mu_model_mesh.specs.MeshOutcomes.{MeshOutcome, of_nodes, all_of_nodes, updater_ran, dist_ran, dist_happens, dist_happens_by}
+use Rattle.mu_model_mesh_completion.specs.Settled.{IsAtRest}
 use Rattle.mu_model_completion.specs.Turn.{Member, Part, IsNode, IsUpdater, Body, Asks, Replies, Sent}
 
 -- ---- members
@@ -77,14 +79,15 @@ pub set_there : {X : Type 0} (a b : ℕ) (es : List (ℕ × X)) (w : X) → (a �
 set_there a b [] w ne = refl
 set_there a b (e ∷ es) w ne = there_by a b e es w (nat_eq a e.0) refl ne (set_there a b es w ne)
 
--- ---- no tear is to come, and no distributor is there
+-- ---- no tear is to come, and distributors are at rest
 
 pub record Stable (m : Mesh) : Type 0 where
-  pub no_distributor : m.distributors ≡ []
+  pub at_rest : (address : ℕ) (d : DistributorMember) → distributor_at m address ≡ Some d → IsAtRest d
   pub no_tear : (address : ℕ) (n : w.Member) → node_at m address ≡ Some n → n.tear ≡ None
 
-pub nobody : (m : Mesh) → Stable m → (address : ℕ) → distributor_at m address ≡ None
-nobody m h address = ap (λ (ds : List (ℕ × DistributorMember)). lookup (nat_eq address) ds) h.no_distributor
+-- where no distributor is, none comes
+abbrev pub NoneComes : Mesh → Mesh → Type 0
+NoneComes m next = (b : ℕ) → distributor_at m b ≡ None → distributor_at next b ≡ None
 
 -- ---- a node goes through a step
 
@@ -94,6 +97,7 @@ pub record NodeRan (m next : Mesh) (address : ℕ) (n : w.Member) (step : NodeSt
   pub bag : next.nodes.bag ≡ m.nodes.bag ++ step.sent
   pub order : next.order ≡ m.order
   pub stable : Stable next
+  pub none_comes : NoneComes m next
 
 tear_by : (m next : Mesh) (address : ℕ) (n : w.Member) (b : ℕ) (k : w.Member) (t : Bool) → nat_eq address b ≡ t → Stable m → n.tear ≡ None → node_at next address ≡ Some n
     → ((c : ℕ) → (address ≡ c → ⊥) → node_at next c ≡ node_at m c) → node_at next b ≡ Some k → k.tear ≡ None
@@ -121,7 +125,8 @@ node_ran m address old n first step s at no_tear =
       there = λ b ne. ap (λ (o : Option w.Member). members_by b o (updater_at m b)) (there b ne);
       bag = refl;
       order = refl;
-      stable = record { no_distributor = s.no_distributor; no_tear = λ b k h. tear_by m next address new b k (nat_eq address b) refl s no_tear here there h };
+      stable = record { at_rest = s.at_rest; no_tear = λ b k h. tear_by m next address new b k (nat_eq address b) refl s no_tear here there h };
+      none_comes = λ b h. h;
     }
 
 happens_only_by : (m : Mesh) (address : ℕ) (n : w.Member) (event : NodeEvent) (first : List ℕ) (o : MeshOutcome) (worn : Bool) (tear : Option Tear) → tear ≡ None
@@ -145,6 +150,7 @@ pub record UpdaterRan (m next : Mesh) (address : ℕ) (u : UpdaterMember) (step 
   pub bag : next.nodes.bag ≡ m.nodes.bag ++ step.sent
   pub order : next.order ≡ m.order
   pub stable : Stable next
+  pub none_comes : NoneComes m next
 
 pub updater_went : (m : Mesh) (address : ℕ) (old u : UpdaterMember) (first : List ℕ) (step : UpdaterStep) → Stable m → node_at m address ≡ None → updater_at m address ≡ Some old
     → UpdaterRan m (updater_ran m address u first step).mesh address u step
@@ -158,5 +164,56 @@ updater_went m address old u first step s nobody_there at =
       there = λ b ne. ap (λ (o : Option UpdaterMember). members_by b (node_at m b) o) (there b ne);
       bag = refl;
       order = refl;
-      stable = record { no_distributor = s.no_distributor; no_tear = s.no_tear };
+      stable = record { at_rest = s.at_rest; no_tear = s.no_tear };
+      none_comes = λ b h. h;
     }
+
+-- ---- a distributor at rest goes through a step
+
+pub record DistRan (m next : Mesh) : Type 0 where
+  pub same : (b : ℕ) → member_of next b ≡ member_of m b
+  pub bag : next.nodes.bag ≡ m.nodes.bag ++ []
+  pub order : next.order ≡ m.order
+  pub stable : Stable next
+  pub none_comes : NoneComes m next
+
+rest_by : (m next : Mesh) (address b : ℕ) (new k : DistributorMember) (t : Bool) → nat_eq address b ≡ t → Stable m → IsAtRest new → distributor_at next address ≡ Some new
+    → ((c : ℕ) → (address ≡ c → ⊥) → distributor_at next c ≡ distributor_at m c) → distributor_at next b ≡ Some k → IsAtRest k
+rest_by m next address b new k true t s rest here there h =
+    let at : address ≡ b = eqb-true address b t in
+    let same : distributor_at next b ≡ Some new = subst (λ c. distributor_at next c ≡ Some new) at here in
+    let is : new ≡ k = cc in
+    subst IsAtRest is rest
+rest_by m next address b new k false t s rest here there h =
+    s.at_rest b k (sym (there b (λ is. true_false (sym (eq-eqb address b is) ∙ t))) ∙ h)
+  where
+    true_false : true ≡ false → ⊥
+    true_false e = cc
+
+pub dist_went : (m : Mesh) (address : ℕ) (old d : DistributorMember) (first : List ℕ) (step : DistStep) → Stable m → distributor_at m address ≡ Some old → step.sent ≡ [] → IsAtRest (record d { state = step.next })
+    → DistRan m (dist_ran m address d first step).mesh
+dist_went m address old d first step s at quiet rest =
+    let next : Mesh = (dist_ran m address d first step).mesh in
+    let new : DistributorMember = record d { state = step.next } in
+    let here : distributor_at next address ≡ Some new = set_here address m.distributors old new at in
+    let there : (c : ℕ) → (address ≡ c → ⊥) → distributor_at next c ≡ distributor_at m c = λ c ne. set_there address c m.distributors new ne in
+    record {
+      same = λ b. refl;
+      bag = ap (λ (ps : List Packet). m.nodes.bag ++ ps) quiet;
+      order = refl;
+      stable = record { at_rest = λ b k h. rest_by m next address b new k (nat_eq address b) refl s rest here there h; no_tear = s.no_tear };
+      none_comes = λ b h. there b (λ is. some_none (sym at ∙ (ap (λ c. distributor_at m c) is ∙ h))) ∙ h;
+    }
+  where
+    some_none : {A : Type 0} {a : A} → Some a ≡ None → ⊥
+    some_none e = cc
+
+dist_only_by : (m : Mesh) (address : ℕ) (d : DistributorMember) (event : NodeEvent) (first : List ℕ) (o : MeshOutcome) (worn : Bool) (tear : Option Tear) → tear ≡ None
+    → Contains (cond worn [] (dist_happens_by m address d event first tear)) o → dist_ran m address d first (dist_step address d.state event d.moment) ≡ o
+dist_only_by m address d event first o true tear e h = absurd (none o h)
+dist_only_by m address d event first o false None e h = only _ o h
+dist_only_by m address d event first o false (Some tear) e h = cc
+
+pub dist_only : (m : Mesh) (address : ℕ) (d : DistributorMember) (event : NodeEvent) (first : List ℕ) (o : MeshOutcome) → d.tear ≡ None → Contains (dist_happens m address d event first) o
+    → dist_ran m address d first (dist_step address d.state event d.moment) ≡ o
+dist_only m address d event first o e h = dist_only_by m address d event first o _ d.tear e h

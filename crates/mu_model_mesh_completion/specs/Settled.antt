@@ -1,17 +1,19 @@
 -- A world of a script whose updater is about to begin, and one in which its update is complete.
-use Rattle.std.specs.Prelude.{ℕ, ◌≡◌, ◌<◌, ◌≤◌, ◌⊎◌, ◌^◌, true, List, [], ◌∷◌, length, map, Option, Some, None}
+use Rattle.std.specs.Prelude.{ℕ, ◌≡◌, ◌<◌, ◌≤◌, ◌⊎◌, ◌^◌, true, false, List, [], ◌∷◌, length, map, Option, Some, None}
 use Rattle.std.specs.List.{AllByRecursion}
 use Rattle.mu_model_image.specs.Meta.{Image}
 use Rattle.mu_model_node.specs.declared.LastBlock.{LastBlock}
+use Rattle.mu_model_node.specs.declared.Link.TheVariants.{Cut}
 use Rattle.mu_model_node.specs.declared.Parameters.{Parameters}
 use Rattle.mu_model_node.specs.NodeState.{Job}
 use Rattle.mu_model_node.specs.Sound.{IsNodeState}
 use Rattle.mu_model_told.specs.Laws.{HasNumbers}
 use Rattle.mu_model_client.specs.Begin.{is_ended}
 use Rattle.mu_model_client.specs.Client.{rows}
+use Rattle.mu_model_distributor.specs.DistTime.{has_turns}
 use Rattle.mu_model_updater.specs.Updater.{UpdaterLine, updater_of}
 use Rattle.mu_model_world.specs.World.{Member}
-use Rattle.mu_model_mesh.specs.Mesh.{UpdaterMember, Mesh, is_member, node_at, updater_at}
+use Rattle.mu_model_mesh.specs.Mesh.{UpdaterMember, DistributorMember, Mesh, is_member, node_at, updater_at, distributor_at}
 use Rattle.mu_model_completion.specs.Completion.{NoneTwice, applying, drop_of, succeeded}
 
 -- ---- worlds
@@ -40,10 +42,11 @@ pub record IsNode (address : ℕ) (n : Member) : Type 0 where
   pub unicast : address < 0x8000
   pub some_group : (n.group ≡ 0) ⊎ (0xC000 ≤ n.group)
 
--- nodes are sound, an updater sends from its own address, what stands at an address is one or the other, and no address stands twice
+-- nodes are sound, an updater sends from its own address, what stands at an address is of one kind, and no address stands twice
 pub record IsWorld (m : Mesh) : Type 0 where
   pub nodes : (address : ℕ) (n : Member) → node_at m address ≡ Some n → IsNode address n
   pub updaters : (address : ℕ) (u : UpdaterMember) → updater_at m address ≡ Some u → (u.updater.client.sending.from ≡ address) × (node_at m address ≡ None)
+  pub distributors : (address : ℕ) (d : DistributorMember) → distributor_at m address ≡ Some d → (address < 0x8000) × (node_at m address ≡ None)
   pub once : NoneTwice m.order
 
 -- ---- the beginning
@@ -52,6 +55,7 @@ pub record IsWorld (m : Mesh) : Type 0 where
 pub record IsLine (line : UpdaterLine) : Type 0 where
   pub address : line.address < 2 ^ 15
   pub id : line.id < 2 ^ 48
+  pub some_group : (line.group ≡ 0) ⊎ (0xC000 ≤ line.group)
   pub ttl : line.ttl < 2 ^ 8
   pub base : line.base < 2 ^ 16
   pub mode_least : 1 ≤ line.mode
@@ -81,8 +85,14 @@ pub record Takes (line : UpdaterLine) (m : Mesh) (address : ℕ) : Type 0 where
   pub room : length line.content ≤ node.state.durable.capacity
   pub in_group : (line.group ≡ 0) ⊎ (node.group ≡ line.group)
 
--- the updater of a line has had no event, each receiver takes the update, the other updaters have ended, there is no distributor, and
--- no tear is to come
+-- a distributor is in phase 0, 2, 4, 5 or 7, no upload is active, and no tear is to come
+pub record IsAtRest (d : DistributorMember) : Type 0 where
+  pub rests : has_turns d.state.durable.phase ≡ false
+  pub no_upload : d.state.session.link ≡ Cut
+  pub no_tear : d.tear ≡ None
+
+-- the updater of a line has had no event, each receiver takes the update, the other updaters have ended, the distributors are at rest,
+-- and no tear is to come
 pub record CanSettle (line : UpdaterLine) (m : Mesh) : Type 0 where
   pub range : IsLine line
   pub member : is_member m line.address ≡ true
@@ -90,7 +100,7 @@ pub record CanSettle (line : UpdaterLine) (m : Mesh) : Type 0 where
   pub updater : updater_at m line.address ≡ Some (record { moment = moment; updater = updater_of line })
   pub takes : AllByRecursion (Takes line m) line.receivers
   pub ended : (address : ℕ) (u : UpdaterMember) → (address ≡ line.address → ⊥) → updater_at m address ≡ Some u → is_ended u.updater.client.place ≡ true
-  pub no_distributor : m.distributors ≡ []
+  pub at_rest : (address : ℕ) (d : DistributorMember) → distributor_at m address ≡ Some d → IsAtRest d
   pub no_tear : (address : ℕ) (n : Member) → node_at m address ≡ Some n → n.tear ≡ None
 
 -- ---- the end

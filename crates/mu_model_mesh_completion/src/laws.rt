@@ -4,7 +4,8 @@ ghost use Rattle.mu_model_mesh_completion.specs.Laws.{PushSettles, PushSettlesNo
 ghost use Rattle.mu_model_mesh_completion.specs.Worked.{OneNode};
 
 use mu_model_client_laws::laws::{
-    plans_stay, replies_are_read, requests_are_no_answers, requests_are_read,
+    clients_are_sound, lists, plans_stay, replies_are_read, requests_are_no_answers,
+    requests_are_read,
 };
 use mu_model_completion::laws::{nobody_is_dropped, pull_completes, push_completes};
 use mu_model_image::laws::{blocks, chunks, images, made};
@@ -30,6 +31,8 @@ pub fn settle_completes()
     requests_are_no_answers();
     replies_are_read();
     plans_stay();
+    lists();
+    clients_are_sound();
     blocks();
     chunks();
     images();

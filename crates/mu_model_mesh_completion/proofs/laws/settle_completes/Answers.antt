@@ -1,4 +1,4 @@
-use Rattle.mu_model_mesh_completion.proofs.Begins.{push_settles, push_settles_no_sooner, push_drops_nobody, pull_settles, pull_drops_nobody, Images}
+use Rattle.mu_model_mesh_completion.proofs.Begins.{push_settles, push_settles_no_sooner, push_drops_nobody, pull_settles, pull_drops_nobody, Images, Aiming}
 use Rattle.mu_model_mesh_completion.proofs.Happens.{Wire}
 use Rattle.mu_model_mesh_completion.proofs.Members.{AllLaws}
 use Rattle.mu_model_mesh_completion.proofs.laws.settle_completes.Goals as goal
@@ -29,10 +29,14 @@ returns c =
       replies = c.replies_are_read.ensures;
     } in
     let own : Images = record { fit = c.images.ensures.fit; metadata = c.images.ensures.metadata } in
+    let aim : Aiming = record {
+      laws = record { plans = c.plans_stay.ensures; lists = c.lists.ensures; sound = c.clients_are_sound.ensures.events };
+      begins = c.clients_are_sound.ensures.begins;
+    } in
     record {
-      push = push_settles all wire own c.push_completes.ensures.completes;
-      no_sooner = push_settles_no_sooner all wire own c.push_completes.ensures.takes_all;
-      pull = pull_settles all wire own c.pull_completes.ensures;
-      push_drops_nobody = push_drops_nobody all wire own c.nobody_is_dropped.ensures.push;
-      pull_drops_nobody = pull_drops_nobody all wire own c.nobody_is_dropped.ensures.pull;
+      push = push_settles all wire own aim c.push_completes.ensures.completes;
+      no_sooner = push_settles_no_sooner all wire own aim c.push_completes.ensures.takes_all;
+      pull = pull_settles all wire own aim c.pull_completes.ensures;
+      push_drops_nobody = push_drops_nobody all wire own aim c.nobody_is_dropped.ensures.push;
+      pull_drops_nobody = pull_drops_nobody all wire own aim c.nobody_is_dropped.ensures.pull;
     }
