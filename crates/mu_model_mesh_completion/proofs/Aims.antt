@@ -1,10 +1,9 @@
 -- What a client asks goes to its receivers, or to its group.
-use Rattle.std.proofs.Common.{◌≡◌, ℕ, zero, suc, Bool, true, false, List, [], ◌∷◌, ◌++◌, map, take, drop, refl, sym, ap, subst, ◌∙◌, Option, Some, None, inl, inr, ◌⊎◌}
+use Rattle.std.proofs.Common.{◌≡◌, ℕ, zero, suc, Bool, true, false, List, [], ◌∷◌, map, take, drop, refl, sym, ap, subst, ◌∙◌, inl, inr, ◌⊎◌}
 use Rattle.std.specs.Prelude.{◌==◌, ◌&&◌, ◌||◌}
-use Rattle.std.specs.List.{AllByRecursion, list_any, flat_map}
+use Rattle.std.specs.List.{AllByRecursion, list_any}
 use Rattle.std.proofs.lemmas.Bool.{eqb-true}
 use Rattle.mu_model_node.specs.NodeMessages.{Request, Reply}
-use Rattle.mu_model_node.specs.NodeState.{NodeState}
 use Rattle.mu_model_client.specs.declared.Sending.{Sending}
 use Rattle.mu_model_client.specs.Answers.{Answer, heard}
 use Rattle.mu_model_client.specs.Begin.{is_ended}
@@ -14,7 +13,7 @@ use Rattle.mu_model_client.specs.Rows.{Row}
 use Rattle.mu_model_client.specs.Told.{told}
 use Rattle.mu_model_client.specs.Due.{Due, due}
 use Rattle.mu_model_client_laws.specs.Laws.{KeepsPlan, IsSound, EventsKeepSound, ListsGoToActive, MakesList, IsList, sends_none, goes_on_with, makes, GoesAmong, may_ask, is_one_of}
-use Rattle.mu_model_completion.specs.Turn.{Member, Part, IsNode, IsUpdater, Body, Asks, Replies, Sent, asked_by, replied_by, later, part_timed, node_given, updater_given, part_given, is_for, given_if, after_packet, answers_to, after_time, sent_in_time}
+use Rattle.mu_model_completion.specs.Turn.{Member, Part, IsNode, IsUpdater, Body, Asks, Replies, Sent, asked_by, replied_by, later, part_timed, node_given, updater_given, part_given, is_for, given_if, after_packet}
 use Rattle.mu_model_mesh_completion.proofs.Members.{due_ended, BodyAnswers, IsAnswer}
 
 pub record AimLaws : Type 0 where

@@ -1,21 +1,18 @@
 -- All that a client of a script asks is in the ranges of the grammar.
-use Rattle.std.proofs.Common.{◌≡◌, ◌≤◌, ◌<◌, ◌^◌, ◌+◌, ◌-◌, ◌*◌, min, ℕ, zero, suc, Bool, true, false, List, [], ◌∷◌, ◌++◌, length, map, take, drop, refl, sym, ap, subst, ◌∙◌, cond, arith, Option, Some, None, inl, inr, ◌⊎◌}
+use Rattle.std.proofs.Common.{◌≡◌, ◌≤◌, ◌<◌, ◌^◌, ◌+◌, ◌*◌, ℕ, zero, suc, Bool, true, false, List, [], ◌∷◌, ◌++◌, length, map, take, drop, refl, sym, ap, subst, ◌∙◌, cond, arith, Option, Some, None}
 use Rattle.std.specs.Prelude.{◌==◌, nat_le}
 use Rattle.std.specs.List.{AllByRecursion, list_any, find, range_with_len, flat_map}
 use Rattle.std.proofs.Math.Nat.{mul-le-mul_left}
 use Rattle.std.proofs.lemmas.Bool.{eqb-true}
 use Rattle.std.proofs.lemmas.Bool.Decides.{nat_tests}
-use Rattle.mu_model_image.specs.declared.Meta.{Meta}
-use Rattle.mu_model_image.specs.Meta.{IsMeta, meta_octets}
-use Rattle.mu_model_image.specs.Pieces.{block_of, block_count, block_length, chunk_of, chunk_length}
+use Rattle.mu_model_image.specs.Pieces.{block_of, block_length, chunk_of, chunk_length}
 use Rattle.mu_model_image.specs.Laws.{BlocksAreThoseWithin, BlockHasItsLength, ChunksAreThoseWithin, ChunkHasItsLength}
-use Rattle.mu_model_node.specs.BlobMessages.{BlockGet, ChunkTransfer}
-use Rattle.mu_model_node.specs.NodeMessages.{Request, OfUpdate, OfBlob}
+use Rattle.mu_model_node.specs.BlobMessages.{ChunkTransfer}
+use Rattle.mu_model_node.specs.NodeMessages.{Request, OfBlob}
 use Rattle.mu_model_client.specs.declared.Sending.{Sending}
 use Rattle.mu_model_client.specs.Rows.{Row}
 use Rattle.mu_model_client.specs.Answers.{Answer}
-use Rattle.mu_model_client.specs.Sets.{below}
-use Rattle.mu_model_client.specs.Client.{Purpose, Blob, Update, Step, Check, Start, Information, Transfer, Block, Chunks, Pull, Get, Verify, Apply, Confirm, Cancel, Part, part_of, Receiver, is_pending, misses_chunks, is_begun_for, Item, Says, Sends, Place, Before, At, Verified, Ended, Client, at_moment, row_of, block_total, chunk_total, is_push, round_time}
+use Rattle.mu_model_client.specs.Client.{Purpose, Blob, Update, Step, Check, Start, Information, Transfer, Block, Chunks, Pull, Get, Verify, Apply, Confirm, Cancel, part_of, Receiver, is_pending, misses_chunks, is_begun_for, Item, Sends, Place, Before, At, Verified, Ended, Client, at_moment, row_of, block_total, chunk_total, is_push, round_time}
 use Rattle.mu_model_client.specs.Lists.{metadata_of, step_message, pull_again, again_message, said_to, said_if, messages, lacking, destinations, chunk_items, missing_of, wanted_of, first_list, chunk_octets, sent_for}
 use Rattle.mu_model_client.specs.Told.{told}
 use Rattle.mu_model_client.specs.Due as d

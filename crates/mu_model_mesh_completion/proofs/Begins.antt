@@ -1,24 +1,21 @@
 -- The members of a world in which an updater is about to begin can begin.
-use Rattle.std.proofs.Common.{◌≡◌, ◌≢◌, ◌<◌, ◌≤◌, ◌+◌, ◌-◌, ◌*◌, ◌^◌, ℕ, nat_eq, Bool, true, false, List, [], ◌∷◌, ◌++◌, length, map, refl, sym, ap, subst, ◌∙◌, cond, arith, length-append, Option, Some, None, inl, inr, ◌⊎◌}
+use Rattle.std.proofs.Common.{◌≡◌, ◌≤◌, ◌-◌, ℕ, nat_eq, Bool, true, false, List, [], ◌∷◌, length, map, refl, sym, ap, subst, ◌∙◌, arith, Option, Some, None, inl, inr, ◌⊎◌}
 use Rattle.std.specs.Prelude.{◌==◌}
 use Rattle.std.specs.List.{AllByRecursion, flat_map}
-use Rattle.std.proofs.lemmas.Bool.{eqb-true, ne_eqb, eq-eqb}
-use Rattle.byteorder.specs.Endian.{little_bytes}
+use Rattle.std.proofs.lemmas.Bool.{eqb-true, eq-eqb}
 use Rattle.mu_model_image.specs.declared.Meta.{Meta}
-use Rattle.mu_model_image.specs.Meta.{Image, IsMeta, meta_octets, image_of}
+use Rattle.mu_model_image.specs.Meta.{IsMeta, meta_octets}
 use Rattle.mu_model_image.specs.Laws.{ImagesFit, ImagesHaveMetadata}
-use Rattle.mu_model_node.specs.NodeState.{Job, NodeState}
+use Rattle.mu_model_node.specs.NodeState.{Job}
 use Rattle.mu_model_told.specs.Laws.{HasNumbers}
 use Rattle.mu_model_client.specs.Begin.{is_ended, start, new_active}
 use Rattle.mu_model_client.specs.Rows.{Row}
-use Rattle.mu_model_client.specs.Client.{Client}
 use Rattle.mu_model_client_laws.specs.Laws.{BeginsSound}
 use Rattle.mu_model_updater.specs.Updater.{UpdaterLine, plan_of, updater_of, first_image}
 use Rattle.mu_model_world.specs.World as w
 use Rattle.mu_model_world.specs.World.{config_of}
 use Rattle.mu_model_mesh.specs.Mesh.{UpdaterMember, DistributorMember, Mesh, node_at, updater_at, distributor_at}
 use Rattle.mu_model_mesh.specs.MeshOutcomes.{mesh_begun}
-use Rattle.mu_model_mesh.specs.Settle.{Settles}
 use Rattle.mu_model_completion.specs.Completion as typed
 use Rattle.mu_model_completion.specs.Completion.{at_address, rows_at, drops_at, IsQuiet, IsUpdate, NoneTwice, CanBegin, push_turns, applying, succeeded, PushCompletes, PushTakesAll, PullCompletes, PushDropsNobody, PullDropsNobody}
 use Rattle.mu_model_completion.specs.Turn.{Member, IsNode, IsUpdater, settle}
@@ -30,7 +27,7 @@ use Rattle.mu_model_mesh_completion.proofs.Nodes.{NodeFits}
 use Rattle.mu_model_mesh_completion.proofs.Asks.{SendingFits, Indexes, ClientFits}
 use Rattle.mu_model_mesh_completion.proofs.Members.{AllLaws, MemberFits}
 use Rattle.mu_model_mesh_completion.proofs.Aims.{AimLaws, addresses_of, ClientAims, MemberAims}
-use Rattle.mu_model_mesh_completion.proofs.Worlds.{members_by, member_of, members, Stable}
+use Rattle.mu_model_mesh_completion.proofs.Worlds.{members_by, member_of, members}
 use Rattle.mu_model_mesh_completion.proofs.Happens.{Wire}
 use Rattle.mu_model_mesh_completion.proofs.Each.{all_joined}
 use Rattle.mu_model_mesh_completion.proofs.Turns.{Here, settles}

@@ -1,34 +1,20 @@
 -- A world in which an updater is about to begin has members that can begin, and typed members that have completed are those of a world
 -- in which the update is complete.
-use Rattle.std.proofs.Common.{◌≡◌, ◌≢◌, ◌<◌, ◌≤◌, ◌+◌, ◌*◌, ◌^◌, ℕ, nat_eq, Bool, true, false, List, [], ◌∷◌, ◌++◌, length, map, refl, sym, ap, subst, ◌∙◌, cond, arith, length-append, Option, Some, None, inl, inr, ◌⊎◌}
-use Rattle.std.specs.Prelude.{◌==◌, ◌||◌, if◌then◌else◌}
+use Rattle.std.proofs.Common.{◌≡◌, ◌≢◌, ℕ, nat_eq, Bool, true, false, List, [], ◌∷◌, ◌++◌, map, refl, sym, ap, subst, ◌∙◌, cond, Option, Some, None}
+use Rattle.std.specs.Prelude.{◌==◌, ◌||◌}
 use Rattle.std.specs.List.{AllByRecursion, flat_map, list_any}
 use Rattle.std.proofs.lemmas.Bool.{eqb-true, ne_eqb, eq-eqb}
-use Rattle.byteorder.specs.Endian.{little_bytes}
-use Rattle.mu_model_image.specs.Meta.{IsMeta, meta_octets, image_of}
-use Rattle.mu_model_image.specs.Laws.{ImagesFit, ImagesHaveMetadata}
-use Rattle.mu_model_node.specs.NodeState.{Job, NodeState}
-use Rattle.mu_model_told.specs.Laws.{HasNumbers}
+use Rattle.mu_model_node.specs.NodeState.{NodeState}
 use Rattle.mu_model_client.specs.Rows.{Row}
-use Rattle.mu_model_client.specs.declared.Dropped.{Dropped}
-use Rattle.mu_model_client.specs.Begin.{is_ended, start, new_active}
-use Rattle.mu_model_client.specs.Client.{Receiver, rows}
-use Rattle.mu_model_updater.specs.Updater.{UpdaterLine, plan_of, updater_of, first_image}
+use Rattle.mu_model_client.specs.Client.{rows}
+use Rattle.mu_model_updater.specs.Updater.{UpdaterLine}
 use Rattle.mu_model_world.specs.World as w
 use Rattle.mu_model_world.specs.World.{config_of}
-use Rattle.mu_model_mesh.specs.Mesh.{UpdaterMember, Mesh, is_member, node_at, updater_at}
-use Rattle.mu_model_mesh.specs.MeshOutcomes.{mesh_begun}
-use Rattle.mu_model_completion.specs.Completion as typed
-use Rattle.mu_model_completion.specs.Completion.{at_address, Distinct, IsQuiet, AllQuiet, rows_of, rows_in, drop_of, drops_of, drops_in, IsUpdate, NoneTwice, CanBegin, succeeded, Completed}
+use Rattle.mu_model_mesh.specs.Mesh.{UpdaterMember, Mesh, node_at, updater_at}
+use Rattle.mu_model_completion.specs.Completion.{at_address, Distinct, rows_of, rows_in, drop_of, drops_of, drops_in, NoneTwice}
 use Rattle.mu_model_completion.specs.Turn.{Member, Part, IsNode, IsUpdater}
-use Rattle.mu_model_mesh_completion.specs.Settled as settled
 use Rattle.mu_model_mesh_completion.specs.Settled.{DropsNobody}
-use Rattle.mu_model_mesh_completion.proofs.Shown.{JobFits}
-use Rattle.mu_model_mesh_completion.proofs.Asks.{SendingFits, Indexes, ClientFits}
-use Rattle.mu_model_mesh_completion.proofs.Members.{MemberFits}
-use Rattle.mu_model_mesh_completion.proofs.Worlds.{members_by, member_of, members, Stable}
-use Rattle.mu_model_mesh_completion.proofs.Each.{all_joined}
-use Rattle.mu_model_mesh_completion.proofs.Turns.{Here}
+use Rattle.mu_model_mesh_completion.proofs.Worlds.{members_by, member_of, members}
 
 -- ---- members by address
 

@@ -1,21 +1,21 @@
 -- A time event and a packet do to the members of a world what they do to typed members.
-use Rattle.std.proofs.Common.{◌≡◌, ◌≤◌, ◌+◌, ℕ, nat_eq, Bool, true, false, List, [], ◌∷◌, ◌++◌, map, refl, sym, ap, subst, ◌∙◌, cond, arith, max, append-nil, Option, Some, None}
-use Rattle.std.specs.Prelude.{◌==◌, ◌||◌, ◌&&◌, not, Contains, slice_get}
+use Rattle.std.proofs.Common.{◌≡◌, ◌≤◌, ◌+◌, ℕ, Bool, true, false, List, [], ◌∷◌, ◌++◌, map, refl, sym, ap, subst, ◌∙◌, cond, arith, max, append-nil, Option, Some, None}
+use Rattle.std.specs.Prelude.{◌==◌, ◌||◌, Contains, slice_get}
 use Rattle.std.specs.List.{AllByRecursion, flat_map}
-use Rattle.std.proofs.lemmas.Bool.{eqb-true, eq-eqb}
+use Rattle.std.proofs.lemmas.Bool.{eqb-true}
 use Rattle.mu_model_wire.specs.Packet.{Packet}
 use Rattle.mu_model_wire.specs.Laws.{GrammarHolds, CanonicalIsRead}
 use Rattle.mu_model_node.specs.declared.NodeConfig.{NodeConfig}
 use Rattle.mu_model_node.specs.Events as e
 use Rattle.mu_model_node.specs.Events.{PacketComes, TimeComes, NodeStep, node_step, on_request, stepped, passed_over}
-use Rattle.mu_model_node.specs.NodeMessages.{Request, Reply, request_at, reply_octets, reply_packet}
+use Rattle.mu_model_node.specs.NodeMessages.{Request, Reply, request_at, reply_packet}
 use Rattle.mu_model_node.specs.NodeState.{NodeState, is_addressee, update_phase}
 use Rattle.mu_model_node.specs.TimeTable.{on_time}
-use Rattle.mu_model_client.specs.Answers.{Answer, answer_at, heard}
+use Rattle.mu_model_client.specs.Answers.{answer_at, heard}
 use Rattle.mu_model_client.specs.Client as client
 use Rattle.mu_model_client.specs.Client.{Client}
 use Rattle.mu_model_client.specs.Due.{due}
-use Rattle.mu_model_client.specs.Packets.{request_octets, request_packet, answer_handled, client_packet}
+use Rattle.mu_model_client.specs.Packets.{request_packet, answer_handled, client_packet}
 use Rattle.mu_model_client.specs.Told.{told}
 use Rattle.mu_model_client_laws.specs.Wire.{RequestsAreRead, RequestsAreNoAnswers, RepliesAreRead}
 use Rattle.mu_model_distributor.specs.DistEvents.{DistStep, dist_step}
@@ -28,7 +28,7 @@ use Rattle.mu_model_mesh.specs.Mesh.{UpdaterMember, DistributorMember, Mesh, nod
 use Rattle.mu_model_mesh.specs.MeshOutcomes as mo
 use Rattle.mu_model_mesh.specs.MeshOutcomes.{MeshOutcome, of_nodes, updater_ran, updater_later, dist_ran, dist_later, timed_by, given_by, given_packet, unread_if}
 use Rattle.mu_model_mesh.specs.Settle.{turn_comes}
-use Rattle.mu_model_completion.specs.Turn.{Member, Part, IsNode, IsUpdater, Body, Asks, Replies, Sent, Moved, asked_by, replied_by, stands, part_timed, timed, part_given, is_for, given_if, given}
+use Rattle.mu_model_completion.specs.Turn.{Member, IsNode, IsUpdater, Body, Asks, Replies, Sent, Moved, asked_by, replied_by, part_timed, timed, part_given, is_for, given_if, given}
 use Rattle.mu_model_mesh_completion.proofs.Replies.{reply_read, reply_asks_nothing}
 use Rattle.mu_model_mesh_completion.proofs.Members.{MemberFits, Handed, BodyFits, SentFits}
 use Rattle.mu_model_mesh_completion.proofs.Worlds.{members_by, member_of, body_octets, packet_of, only, none, Stable, NoneComes, NodeRan, node_ran, happens_only, UpdaterRan, updater_went, DistRan, dist_went, dist_only}

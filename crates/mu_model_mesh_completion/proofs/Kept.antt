@@ -1,12 +1,12 @@
 -- What holds of each world of a script without distributors, and which changes keep it.
-use Rattle.std.proofs.Common.{◌≡◌, ◌≢◌, ◌<◌, ◌≤◌, ◌+◌, ◌-◌, ℕ, zero, suc, nat_eq, Bool, true, false, List, [], ◌∷◌, ◌++◌, length, map, refl, sym, ap, subst, ◌∙◌, cond, arith, append-nil, Option, Some, None, ◌⊎◌, inl, inr}
-use Rattle.std.specs.Prelude.{Contains, slice_get, ◌||◌}
+use Rattle.std.proofs.Common.{◌≡◌, ◌≢◌, ℕ, nat_eq, Bool, true, false, List, [], ◌∷◌, ◌++◌, refl, sym, ap, subst, ◌∙◌, cond, Option, Some, None, ◌⊎◌, inl, inr}
+use Rattle.std.specs.Prelude.{◌||◌}
 use Rattle.std.specs.List.{AllByRecursion, list_any}
 use Rattle.std.specs.Map.{lookup, set_value}
 use Rattle.std.proofs.lemmas.Bool.{eqb-true, ne_eqb, eq-eqb}
 use Rattle.mu_model_wire.specs.Packet.{Packet}
 use Rattle.mu_model_world.specs.World as w
-use Rattle.mu_model_mesh.specs.Mesh.{UpdaterMember, DistributorMember, Mesh, is_member, node_at, updater_at, distributor_at}
+use Rattle.mu_model_mesh.specs.Mesh.{UpdaterMember, Mesh, is_member, node_at, updater_at}
 use Rattle.mu_model_completion.specs.Completion.{NoneTwice}
 use Rattle.mu_model_mesh_completion.specs.Settled as settled
 use Rattle.mu_model_mesh_completion.proofs.Asks.{ClientFits}

@@ -1,6 +1,6 @@
 -- Every event of a world without distributors keeps what holds of it.
-use Rattle.std.proofs.Common.{◌≡◌, ◌<◌, ◌≤◌, ◌+◌, ◌-◌, ℕ, zero, suc, nat_eq, Bool, true, false, List, [], ◌∷◌, ◌++◌, length, map, refl, sym, ap, subst, ◌∙◌, cond, arith, max, append-nil, Option, Some, None, ◌⊎◌, inl, inr}
-use Rattle.std.specs.Prelude.{Contains, slice_get, slice_index_or, nat_le, ◌==◌, MatchOption}
+use Rattle.std.proofs.Common.{◌≡◌, ◌≤◌, ◌-◌, ℕ, zero, suc, nat_eq, true, false, List, [], ◌∷◌, length, map, refl, sym, ap, subst, ◌∙◌, cond, arith, max, append-nil, Option, Some, None, ◌⊎◌, inl, inr}
+use Rattle.std.specs.Prelude.{slice_get, slice_index_or, nat_le, ◌==◌, MatchOption}
 use Rattle.std.specs.List.{AllByRecursion}
 use Rattle.std.specs.Map.{lookup}
 use Rattle.mu_model_flash.specs.declared.Pattern.{Pattern}
@@ -10,9 +10,8 @@ use Rattle.mu_model_wire.specs.Laws.{GrammarHolds, CanonicalIsRead}
 use Rattle.mu_model_node.specs.declared.NodeConfig.{NodeConfig}
 use Rattle.mu_model_node.specs.Events as e
 use Rattle.mu_model_node.specs.Events.{NodeEvent, PacketComes, TimeComes, NodeStep, node_step, node_work, on_request, stepped, passed_over}
-use Rattle.mu_model_node.specs.NodeMessages.{Request, Reply, request_at, reply_octets, reply_packet}
+use Rattle.mu_model_node.specs.NodeMessages.{Request, Reply, request_at, reply_packet}
 use Rattle.mu_model_node.specs.NodeState.{NodeDurable, NodeState, is_addressee, update_phase, restarted}
-use Rattle.mu_model_node.specs.NodeOutcome.{Outcome}
 use Rattle.mu_model_node.specs.Safe.{left_after}
 use Rattle.mu_model_node.specs.Sound.{IsNodeDurable}
 use Rattle.mu_model_node.specs.Laws.{BootsAreSound, WorkLeavesOldOrNew}
@@ -22,8 +21,7 @@ use Rattle.mu_model_client.specs.Client as client
 use Rattle.mu_model_client.specs.Client.{Client}
 use Rattle.mu_model_client.specs.Due.{due}
 use Rattle.mu_model_client.specs.declared.Sending.{Sending}
-use Rattle.mu_model_client.specs.Packets.{request_packet, answer_handled, client_packet, client_time}
-use Rattle.mu_model_client_laws.specs.Laws.{KeepsPlan}
+use Rattle.mu_model_client.specs.Packets.{request_packet, answer_handled}
 use Rattle.mu_model_client_laws.specs.Wire.{InRange, RequestsAreRead}
 use Rattle.mu_model_updater.specs.Updater.{Updater, UpdaterStep, updater_step}
 use Rattle.mu_model_world.specs.World as w
@@ -38,13 +36,11 @@ use Rattle.mu_model_mesh_completion.specs.Settled as settled
 use Rattle.mu_model_mesh_completion.specs.Settled.{JobHasMessages}
 use Rattle.mu_model_mesh_completion.proofs.Replies.{reply_asks_nothing}
 use Rattle.mu_model_mesh_completion.proofs.Shown.{JobFits}
-use Rattle.mu_model_mesh_completion.proofs.Nodes.{NodeFits, NodeStepFits, Replied, request_fits, node_time_fits, moved}
+use Rattle.mu_model_mesh_completion.proofs.Nodes.{NodeFits, Replied, request_fits, node_time_fits, moved}
 use Rattle.mu_model_mesh_completion.proofs.Asks.{ClientFits, Asked, due_fits, told_fits}
 use Rattle.mu_model_mesh_completion.proofs.Moments.{request_keeps, time_keeps}
 use Rattle.mu_model_mesh_completion.proofs.Members.{AllLaws}
-use Rattle.mu_model_mesh_completion.proofs.ReadOctets.{Reads}
-use Rattle.mu_model_mesh_completion.proofs.Worlds.{none}
-use Rattle.mu_model_mesh_completion.proofs.Kept.{PacketReads, BagReads, UpdaterKept, Kept, SameOrder, nothing_kept, node_kept, updater_kept}
+use Rattle.mu_model_mesh_completion.proofs.Kept.{PacketReads, BagReads, UpdaterKept, Kept, node_kept, updater_kept}
 
 pub record RunLaws : Type 0 where
   pub all : AllLaws

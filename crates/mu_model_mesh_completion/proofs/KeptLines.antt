@@ -1,6 +1,6 @@
 -- Every line of a script without distributors keeps what holds of its worlds.
-use Rattle.std.proofs.Common.{◌≡◌, ◌≢◌, ◌<◌, ◌≤◌, ◌+◌, ◌*◌, ◌^◌, ℕ, zero, suc, nat_eq, nat_lt, nat_le, Bool, true, false, List, [], ◌∷◌, ◌++◌, length, map, refl, sym, ap, subst, ◌∙◌, cond, arith, append-nil, Option, Some, None, Result, Ok, Err, ◌⊎◌, inl, inr}
-use Rattle.std.specs.Prelude.{Contains, slice_get, ◌||◌, ◌&&◌, not}
+use Rattle.std.proofs.Common.{◌≡◌, ◌≢◌, ◌<◌, ◌≤◌, ◌*◌, ℕ, zero, suc, nat_eq, nat_lt, nat_le, Bool, true, false, List, [], ◌∷◌, length, refl, sym, ap, subst, ◌∙◌, cond, arith, append-nil, Option, Some, None, ◌⊎◌, inl, inr}
+use Rattle.std.specs.Prelude.{slice_get, ◌||◌, ◌&&◌, not}
 use Rattle.std.specs.List.{AllByRecursion, list_any}
 use Rattle.std.specs.Map.{lookup}
 use Rattle.std.proofs.lemmas.Bool.{ltb-false, eq-eqb}
@@ -9,7 +9,6 @@ use Rattle.mu_model_image.specs.Meta.{Image, image_of}
 use Rattle.mu_model_wire.specs.Packet.{Packet}
 use Rattle.mu_model_wire.specs.Laws.{ReadsWhatIsSpelled}
 use Rattle.mu_model_node.specs.FlashWork.{page_octets}
-use Rattle.mu_model_node.specs.NodeMessages.{request_at}
 use Rattle.mu_model_node.specs.NodeState.{NodeDurable}
 use Rattle.mu_model_node.specs.Sound.{IsActiveImage, IsNodeDurable}
 use Rattle.mu_model_script.specs.Event.{Event, Node, Old, Pair, Updater as UpdaterLine, Distributor, Stock, Say, Deliver, Time, Cut, Tear as TearLine, Active, Phase, Settle, Rows, Packet as PacketLine}
@@ -19,13 +18,12 @@ use Rattle.mu_model_script.specs.declared.BadWhy.TheVariants.{Token as BadToken,
 use Rattle.mu_model_updater.specs.Updater.{UpdaterLine as ScriptLine, updater_of}
 use Rattle.mu_model_world.specs.World as w
 use Rattle.mu_model_world.specs.World.{Tear}
-use Rattle.mu_model_world.specs.Judged.{Objection, against, or_else, offered}
+use Rattle.mu_model_world.specs.Judged.{Objection, against, or_else}
 use Rattle.mu_model_world.specs.Outcomes.{content_octets, node_of, pair_of, new_member, counted, with_member}
 use Rattle.mu_model_mesh.specs.Mesh.{UpdaterMember, DistributorMember, Mesh, is_member, node_at, updater_at, distributor_at}
-use Rattle.mu_model_mesh.specs.MeshOutcomes.{MeshOutcome, mesh_begun, mesh_outcomes, of_nodes, in_order, with_new_updater, active_by, phase_by, rows_by, packet_by, stocked_by}
+use Rattle.mu_model_mesh.specs.MeshOutcomes.{mesh_begun, mesh_outcomes, of_nodes, in_order, with_new_updater, active_by, phase_by, rows_by, packet_by, stocked_by}
 use Rattle.mu_model_mesh.specs.MeshJudged.{against_new, against_past, bank, mesh_objection}
 use Rattle.mu_model_completion.specs.Completion.{NoneTwice}
-use Rattle.mu_model_mesh_completion.specs.Settled as settled
 use Rattle.mu_model_mesh_completion.specs.Settled.{IsLine}
 use Rattle.mu_model_mesh_completion.proofs.Begins.{Images, begins_fit}
 use Rattle.mu_model_mesh_completion.proofs.ReadOctets.{octets_read}

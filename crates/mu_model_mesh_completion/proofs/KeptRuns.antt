@@ -1,8 +1,8 @@
 -- Each world of each run of a script without distributors is as the laws on `settle` ask.
-use Rattle.std.proofs.Common.{◌≡◌, ◌<◌, ◌+◌, ℕ, zero, suc, Bool, true, false, List, [], ◌∷◌, ◌++◌, refl, sym, ap, subst, ◌∙◌, arith, append-nil, Option, Some, None, Result, Ok, Err}
+use Rattle.std.proofs.Common.{◌≡◌, ◌<◌, ◌+◌, ℕ, zero, suc, List, [], ◌∷◌, refl, sym, subst, ◌∙◌, arith, append-nil, Option, Some, None, Result, Ok, Err}
 use Rattle.std.specs.Prelude.{Contains}
 use Rattle.std.specs.List.{AllByRecursion}
-use Rattle.mu_model_script.specs.Event.{Event, Node, Old, Pair, Updater, Distributor, Stock, Say, Deliver, Time, Cut, Tear, Active, Phase, Settle, Rows, Packet}
+use Rattle.mu_model_script.specs.Event.{Event, Distributor, Settle}
 use Rattle.mu_model_script.specs.Laws.{ScriptEventIsInRange}
 use Rattle.mu_model_script.specs.Lines.{script_event}
 use Rattle.mu_model_script.specs.Ranges.{IsInRange}
@@ -10,7 +10,7 @@ use Rattle.mu_model_script.specs.declared.LineFault.{LineFault}
 use Rattle.mu_model_world.specs.Judged.{Objection, judged_event}
 use Rattle.mu_model_mesh.specs.Mesh.{Mesh, new_mesh, addressees}
 use Rattle.mu_model_mesh.specs.MeshOutcomes.{MeshOutcome, mesh_begun, mesh_outcomes}
-use Rattle.mu_model_mesh.specs.MeshJudged.{mesh_objection, mesh_judged_by, mesh_judged}
+use Rattle.mu_model_mesh.specs.MeshJudged.{mesh_objection, mesh_judged_by}
 use Rattle.mu_model_mesh.specs.MeshRun.{MeshMoves, IsDone, MeshRun}
 use Rattle.mu_model_mesh.specs.Settle.{turn_comes, EachComes, given_to, AllComes, none_left, comes, Turns, Settles}
 use Rattle.mu_model_mesh_completion.specs.Settled.{IsWorld}

@@ -1,13 +1,12 @@
 -- Members stay in the ranges of the grammar over a turn, and so is all that they send.
-use Rattle.std.proofs.Common.{◌≡◌, ◌≤◌, ◌+◌, ℕ, Bool, true, false, List, [], ◌∷◌, ◌++◌, map, refl, sym, ap, subst, ◌∙◌, arith, max, Option, Some, None, ◌⊎◌, inl, inr}
-use Rattle.std.specs.List.{AllByRecursion, flat_map}
+use Rattle.std.proofs.Common.{◌≡◌, ◌≤◌, ℕ, Bool, true, false, List, [], ◌∷◌, map, refl, ap, ◌∙◌, arith, max, ◌⊎◌, inl, inr}
+use Rattle.std.specs.List.{AllByRecursion}
 use Rattle.mu_model_node.specs.NodeMessages.{Request, Reply}
 use Rattle.mu_model_node.specs.NodeState.{NodeState, update_phase}
-use Rattle.mu_model_node.specs.NodeOutcome.{Outcome}
 use Rattle.mu_model_node.specs.Events as e
 use Rattle.mu_model_node.specs.Events.{on_request}
 use Rattle.mu_model_node.specs.TimeTable.{on_time}
-use Rattle.mu_model_client.specs.Answers.{Answer, heard}
+use Rattle.mu_model_client.specs.Answers.{heard}
 use Rattle.mu_model_client.specs.declared.Sending.{Sending}
 use Rattle.mu_model_client.specs.Begin.{is_ended}
 use Rattle.mu_model_client.specs.Client as client
@@ -17,9 +16,9 @@ use Rattle.mu_model_client.specs.Due as d
 use Rattle.mu_model_client.specs.Due.{Due, due}
 use Rattle.mu_model_client_laws.specs.Laws.{KeepsPlan}
 use Rattle.mu_model_client_laws.specs.Wire.{InRange}
-use Rattle.mu_model_completion.specs.Turn.{Member, Part, IsNode, IsUpdater, Body, Asks, Replies, Sent, Moved, asked_by, replied_by, later, part_timed, timed, node_given, updater_given, part_given, is_for, given_if, given, after_packet, answers_to, delivered, answers, after_time, sent_in_time}
+use Rattle.mu_model_completion.specs.Turn.{Member, Part, IsNode, IsUpdater, Body, Asks, Replies, Sent, Moved, asked_by, replied_by, later, part_timed, timed, node_given, updater_given, part_given, is_for, given_if, given}
 use Rattle.mu_model_mesh_completion.proofs.Replies.{ReplyFits}
-use Rattle.mu_model_mesh_completion.proofs.Nodes.{Laws, NodeFits, NodeStepFits, Replied, request_fits, node_time_fits, moved}
+use Rattle.mu_model_mesh_completion.proofs.Nodes.{Laws, NodeFits, Replied, request_fits, node_time_fits, moved}
 use Rattle.mu_model_mesh_completion.proofs.Asks.{Pieces, ClientFits, Asked, due_fits, told_fits}
 use Rattle.mu_model_mesh_completion.proofs.Moments.{request_keeps, time_keeps, due_keeps}
 

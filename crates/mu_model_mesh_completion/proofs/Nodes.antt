@@ -1,6 +1,6 @@
 -- A node's states stay in the ranges of the grammar, and so is all that it replies.
-use Rattle.std.proofs.Common.{◌≡◌, ◌≤◌, ◌<◌, ◌^◌, ◌*◌, ℕ, zero, suc, Bool, true, false, List, [], ◌∷◌, length, map, take, drop, refl, sym, ap, subst, ◌∙◌, cond, arith, Option, Some, None, Result, Ok, Err, ◌⊎◌, inl, inr}
-use Rattle.std.specs.Prelude.{◌==◌, slice_get, nat_lt, nat_le, max}
+use Rattle.std.proofs.Common.{◌≡◌, ◌≤◌, ◌<◌, ◌^◌, ℕ, zero, suc, Bool, true, false, List, [], ◌∷◌, length, map, take, drop, refl, sym, subst, cond, arith, Option, Some, None, Result, Ok, Err, inl, inr}
+use Rattle.std.specs.Prelude.{slice_get, nat_lt, nat_le}
 use Rattle.std.specs.List.{AllByRecursion}
 use Rattle.std.proofs.lemmas.List.{length-map}
 use Rattle.mu_model_image.specs.declared.Meta.{Meta}
@@ -13,12 +13,12 @@ use Rattle.mu_model_node.specs.declared.Stored.{Stored}
 use Rattle.mu_model_node.specs.declared.Stored.TheVariants.{Filling, Verified, Refused, Applied}
 use Rattle.mu_model_node.specs.Slots.{is_full, joined}
 use Rattle.mu_model_node.specs.BlobMessages.{BlobRequest, BlobInformationGet, TransferGet, TransferStart, TransferCancel, BlockStart, BlockGet, ChunkTransfer, BlobReply}
-use Rattle.mu_model_node.specs.BlobServer.{heard_at, made_ready, unlinked, Session, Change, Same, Begins, Drops, Puts, BlobPhase, serving_phase, serving_after}
-use Rattle.mu_model_node.specs.BlobTable.{Served, transfer_status, on_blob, on_server_time}
+use Rattle.mu_model_node.specs.BlobServer.{Change, Same, Begins, Drops, Puts, BlobPhase}
+use Rattle.mu_model_node.specs.BlobTable.{Served, on_blob, on_server_time}
 use Rattle.mu_model_node.specs.UpdateMessages.{UpdateStart, UpdateRequest, InformationGet, MetadataCheck, UpdateGet, StartUpdate, UpdateCancel, UpdateApply}
-use Rattle.mu_model_node.specs.NodeMessages.{Request, OfUpdate, OfBlob, Reply, ByUpdate, ByBlob}
+use Rattle.mu_model_node.specs.NodeMessages.{Request, OfUpdate, OfBlob, Reply, ByUpdate}
 use Rattle.mu_model_node.specs.NodeState.{Job, NodeDurable, NodeState, UpdatePhase, Idle, TransferError, TransferActive, Verifying, Succeeded, Failed, Applying, update_number, link_phase, filling_phase, stored_phase, job_phase, update_phase, serving_in, server_of, blob_phase}
-use Rattle.mu_model_node.specs.NodeOutcome.{Outcome, with_session, by_blob, job_after, served}
+use Rattle.mu_model_node.specs.NodeOutcome.{Outcome, by_blob, job_after, served}
 use Rattle.mu_model_node.specs.UpdateTable as u
 use Rattle.mu_model_node.specs.UpdateTable.{check_image, check, status_of, shown, same_start, update_status_in, update_status, on_update}
 use Rattle.mu_model_node.specs.TimeTable.{verified, on_time}
@@ -30,7 +30,7 @@ use Rattle.mu_model_client_laws.specs.Wire.{UpdateInRange, InRange}
 use Rattle.mu_model_mesh_completion.specs.Settled.{HasLast}
 use Rattle.mu_model_mesh_completion.proofs.Replies.{AreIds, UpdateFits, BlobFits, ReplyFits}
 use Rattle.mu_model_mesh_completion.proofs.Shown.{JobFits, PhaseFits, capacity_small, phase_fits, status_fits}
-use Rattle.mu_model_mesh_completion.proofs.Served.{Tells, ServedFits, TimeFits, blob_fits, time_fits}
+use Rattle.mu_model_mesh_completion.proofs.Served.{Tells, ServedFits, blob_fits, time_fits}
 
 -- ---- states
 

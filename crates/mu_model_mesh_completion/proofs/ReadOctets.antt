@@ -1,5 +1,5 @@
 -- What a node reads in octets is in the ranges of the grammar.
-use Rattle.std.proofs.Common.{◌≡◌, ◌<◌, ◌≤◌, ◌^◌, ◌+◌, ◌*◌, ℕ, Bool, true, false, List, [], ◌∷◌, ◌++◌, length, refl, subst, cond, arith, Option, Some, None, Result, Ok, Err}
+use Rattle.std.proofs.Common.{◌≡◌, ℕ, Bool, true, false, List, [], ◌∷◌, refl, subst, cond, arith, Option, Some, None, Result, Ok, Err}
 use Rattle.std.specs.Prelude.{◌==◌, MatchOption}
 use Rattle.std.proofs.lemmas.Bool.{eqb-true}
 use Rattle.mu_model_wire.specs.declared.Refusal.{Refusal}
@@ -10,10 +10,10 @@ use Rattle.mu_model_wire.specs.Reading.{message_at, fields_of}
 use Rattle.mu_model_wire.specs.Spelling.{Fits, FieldsFit, RowFits}
 use Rattle.mu_model_wire.specs.Laws.{AreOctets, GrammarHolds, ReadsWhatIsSpelled}
 use Rattle.mu_model_wire.specs.Table.{rows}
-use Rattle.mu_model_node.specs.BlobMessages.{BlobRequest, TransferGet, TransferStart, TransferCancel, BlockStart, BlockGet, BlobInformationGet, ChunkTransfer, octets_of, parameters_of, blob_request_of}
+use Rattle.mu_model_node.specs.BlobMessages.{BlobRequest, TransferStart, TransferCancel, BlockStart, ChunkTransfer, octets_of, parameters_of, blob_request_of}
 use Rattle.mu_model_node.specs.UpdateMessages.{UpdateRequest, InformationGet, MetadataCheck, StartUpdate, update_request_of}
 use Rattle.mu_model_node.specs.NodeMessages.{either_request, request_in, request_at}
-use Rattle.mu_model_wire.specs.Names.{ttl, base, id, index, first, limit, metadata, mode, size, log, mtu, block, chunk_size, chunk, octets as octets_name}
+use Rattle.mu_model_wire.specs.Names.{ttl, base, id, index, first, limit, metadata, block, chunk_size, chunk, octets as octets_name}
 use Rattle.mu_model_wire.specs.Reading.{value_of}
 use Rattle.mu_model_client_laws.specs.Wire.{UpdateInRange, BlobInRange, InRange}
 

@@ -1,9 +1,8 @@
 -- A distributor at rest sends nothing, whatever time passes and whatever a node tells it, and stays at rest.
-use Rattle.std.proofs.Common.{◌≡◌, ℕ, Bool, true, false, List, [], ◌∷◌, ◌++◌, map, refl, sym, ap, subst, ◌∙◌, cond, max, Option, Some, None, Result, Ok, Err}
+use Rattle.std.proofs.Common.{◌≡◌, ℕ, Bool, true, false, List, [], refl, sym, ap, subst, ◌∙◌, cond, Option, Some, None}
 use Rattle.std.specs.Prelude.{◌==◌}
 use Rattle.mu_model_wire.specs.Packet.{Packet}
 use Rattle.mu_model_wire.specs.Laws.{CanonicalIsRead, GrammarHolds}
-use Rattle.mu_model_wire.specs.Table.{rows}
 use Rattle.mu_model_node.specs.declared.Link.{Link}
 use Rattle.mu_model_node.specs.declared.Link.TheVariants.{Cut, Ready, Running}
 use Rattle.mu_model_node.specs.BlobMessages.{BlobInformationStatus, TransferStatus, BlockStatus, PartialBlockReport}
@@ -11,7 +10,7 @@ use Rattle.mu_model_node.specs.BlobServer.{Transfer, Serving, NoJob, Lacking, Wh
 use Rattle.mu_model_node.specs.BlobTable.{Served, silently, times_out, on_server_time}
 use Rattle.mu_model_node.specs.UpdateMessages.{InformationStatus, MetadataStatus, UpdateStatus}
 use Rattle.mu_model_node.specs.NodeMessages.{Reply, ByUpdate, ByBlob, message_of, reply_octets}
-use Rattle.mu_model_node.specs.Events.{NodeEvent, PacketComes, TimeComes}
+use Rattle.mu_model_node.specs.Events.{PacketComes, TimeComes}
 use Rattle.mu_model_client.specs.Answers.{Answer, answer_of}
 use Rattle.mu_model_client.specs.Client.{Client}
 use Rattle.mu_model_distributor.specs.DistMessages.{taken_of, taken_as, taken_in, taken_at}

@@ -1,5 +1,5 @@
 -- What a node's BLOB server comes to is in the ranges of the grammar.
-use Rattle.std.proofs.Common.{◌≡◌, ◌≤◌, ◌<◌, ◌^◌, ◌+◌, ◌-◌, ◌*◌, ℕ, Bool, true, false, List, [], ◌∷◌, length, map, take, refl, sym, subst, cond, arith, Option, Some, None, ◌⊎◌, inl, inr}
+use Rattle.std.proofs.Common.{◌≡◌, ◌≤◌, ◌<◌, ◌^◌, ◌+◌, ◌-◌, ℕ, Bool, true, false, List, [], length, refl, cond, arith, Option, Some, None, ◌⊎◌, inl, inr}
 use Rattle.std.specs.Prelude.{◌==◌, ◌&&◌, ◌||◌, nat_lt, nat_le, min, not, is_some}
 use Rattle.std.specs.List.{AllByRecursion}
 use Rattle.mu_model_wire.specs.Reports.{members}
@@ -10,9 +10,9 @@ use Rattle.mu_model_node.specs.declared.LastBlock.{LastBlock}
 use Rattle.mu_model_node.specs.declared.Link.{Link}
 use Rattle.mu_model_node.specs.declared.Link.TheVariants.{Cut, Ready, Running}
 use Rattle.mu_model_node.specs.declared.Parameters.{Parameters}
-use Rattle.mu_model_node.specs.BlobMessages.{BlobRequest, BlobInformationGet, TransferGet, TransferStart, TransferCancel, BlockStart, BlockGet, ChunkTransfer, BlobReply, TransferStatus, PartialBlockReport, least_log, most_log, least_chunk, most_chunk}
+use Rattle.mu_model_node.specs.BlobMessages.{BlobRequest, BlobInformationGet, TransferGet, TransferStart, TransferCancel, BlockStart, BlockGet, ChunkTransfer, BlobReply, PartialBlockReport, least_log, most_log, least_chunk, most_chunk}
 use Rattle.mu_model_node.specs.Slots.{Slots, at, put, is_full, missing}
-use Rattle.mu_model_node.specs.BlobServer.{Transfer, CurrentBlock, PullReport, Session, unlinked, heard_at, linked, Serving, NoJob, Lacking, Whole, Server, BlobPhase, Inactive, WaitingForStart, NextBlock, NextChunk, Complete, Suspended, serving_phase, server_phase, Change, Same, Begins, Drops, Puts, serving_after}
+use Rattle.mu_model_node.specs.BlobServer.{Transfer, CurrentBlock, Session, unlinked, heard_at, linked, Serving, NoJob, Lacking, Whole, Server, BlobPhase, Inactive, WaitingForStart, NextBlock, NextChunk, Complete, Suspended, serving_phase, server_phase, Change, Same, Begins, Drops, serving_after}
 use Rattle.mu_model_node.specs.BlobTable as b
 use Rattle.mu_model_node.specs.BlobTable.{Served, transfer_status, on_blob, on_server_time}
 use Rattle.mu_model_node.specs.Sound.{IsPhase}

@@ -1,7 +1,7 @@
 -- What a sound node shows of its BLOB phase is in the ranges of the grammar.
-use Rattle.std.proofs.Common.{◌≡◌, ◌≤◌, ◌<◌, ◌^◌, ◌+◌, ◌*◌, ℕ, zero, suc, Bool, true, false, List, [], ◌∷◌, ◌++◌, length, map, take, filter, refl, sym, ap, subst, ◌∙◌, cond, arith, Option, Some, None}
+use Rattle.std.proofs.Common.{◌≡◌, ◌≤◌, ◌<◌, ◌^◌, ◌+◌, ℕ, zero, suc, Bool, true, false, List, [], ◌∷◌, length, take, filter, refl, ap, cond, arith, Option, Some, None}
 use Rattle.std.specs.Prelude.{nat_lt, ◌==◌, is_some}
-use Rattle.std.specs.List.{AllByRecursion, range_with_len}
+use Rattle.std.specs.List.{range_with_len}
 use Rattle.std.proofs.lemmas.Bool.Decides.{nat_tests}
 use Rattle.std.proofs.lemmas.List.{length-map}
 use Rattle.std.proofs.lemmas.List.FromFn.{length-map-range_with_len}
@@ -13,14 +13,14 @@ use Rattle.mu_model_image.specs.Meta.{Image}
 use Rattle.mu_model_node.specs.declared.Parameters.{Parameters}
 use Rattle.mu_model_node.specs.BlobMessages.{TransferStatus}
 use Rattle.mu_model_node.specs.Slots.{Slots, is_full, missing}
-use Rattle.mu_model_node.specs.BlobServer.{Transfer, CurrentBlock, Session, Serving, NoJob, Lacking, Whole, serving_phase, transfer_phase, BlobPhase, Inactive, WaitingForStart, NextBlock, NextChunk, Complete, Suspended}
+use Rattle.mu_model_node.specs.BlobServer.{Transfer, CurrentBlock, Session, Lacking, serving_phase, transfer_phase, BlobPhase, Inactive, WaitingForStart, NextBlock, NextChunk, Complete, Suspended}
 use Rattle.mu_model_node.specs.BlobTable.{transfer_status, mode_of}
 use Rattle.mu_model_node.specs.declared.Link.{Link}
 use Rattle.mu_model_node.specs.declared.Link.TheVariants.{Cut, Ready, Running}
 use Rattle.mu_model_node.specs.declared.Stored.{Stored}
 use Rattle.mu_model_node.specs.declared.Stored.TheVariants.{Filling, Verified, Refused, Applied}
 use Rattle.mu_model_node.specs.NodeState.{Job, NodeState, Verifying, link_phase, filling_phase, stored_phase, job_phase, serving_in, transfer_of, blob_phase}
-use Rattle.mu_model_node.specs.Sound.{AreBlocks, HasBlocks, StoredIs, HasJob, IsNodeState, IsTransfer, IsPhase}
+use Rattle.mu_model_node.specs.Sound.{HasBlocks, StoredIs, HasJob, IsNodeState, IsTransfer, IsPhase}
 use Rattle.mu_model_told.specs.Laws.{AreJobNumbers}
 use Rattle.mu_model_mesh_completion.specs.Settled.{HasMessages}
 use Rattle.mu_model_mesh_completion.proofs.Replies.{ParametersFit, AreNumbers, ReportFits, BlobFits}

@@ -1,6 +1,6 @@
 -- A turn of a world does to its members what a typed turn does to typed members.
-use Rattle.std.proofs.Common.{◌≡◌, ◌≢◌, ◌<◌, ◌≤◌, ◌+◌, ℕ, zero, suc, Bool, true, false, List, [], ◌∷◌, ◌++◌, length, map, filter, refl, sym, ap, subst, ◌∙◌, arith, append_assoc, append-nil, length-append, Option, Some, None}
-use Rattle.std.specs.Prelude.{◌==◌, ◌||◌, Contains, slice_get}
+use Rattle.std.proofs.Common.{◌≡◌, ◌<◌, ◌≤◌, ◌+◌, ℕ, zero, suc, Bool, true, false, List, [], ◌∷◌, ◌++◌, length, map, filter, refl, sym, ap, subst, ◌∙◌, arith, append_assoc, append-nil, length-append, Option, Some, None}
+use Rattle.std.specs.Prelude.{◌==◌, ◌||◌, slice_get}
 use Rattle.std.specs.List.{AllByRecursion, flat_map}
 use Rattle.std.proofs.lemmas.Option.{slice_get_within}
 use Rattle.mu_model_wire.specs.Packet.{Packet}
@@ -10,11 +10,11 @@ use Rattle.mu_model_world.specs.World as w
 use Rattle.mu_model_mesh.specs.Mesh.{UpdaterMember, Mesh, node_at, updater_at, distributor_at, takes_by, takes, addressees}
 use Rattle.mu_model_mesh.specs.Settle.{turn_comes, EachComes, given_to, AllComes, none_left, comes, Turns, Settles}
 use Rattle.mu_model_completion.specs.Completion.{NoneTwice}
-use Rattle.mu_model_completion.specs.Turn.{Member, Part, IsNode, IsUpdater, Body, Asks, Replies, Sent, Moved, stands, timed, node_given, updater_given, part_given, is_for, given_if, given, after_packet, answers_to, delivered, answers, after_time, sent_in_time, deliveries, turn, settle}
+use Rattle.mu_model_completion.specs.Turn.{Member, Part, IsNode, IsUpdater, Body, Asks, Replies, Sent, Moved, timed, node_given, updater_given, part_given, is_for, given_if, given, after_packet, answers_to, delivered, answers, after_time, sent_in_time, deliveries, turn, settle}
 use Rattle.mu_model_mesh_completion.proofs.Members.{AllLaws, MemberFits, Handed, BodyAnswers, SentFits, IsAnswer, answers_fit, member_time, member_packet}
 use Rattle.mu_model_mesh_completion.proofs.Aims.{AimLaws, MemberAims, BodyAims, SentAims, member_time_aims, member_packet_aims, answers_aim}
 use Rattle.mu_model_mesh_completion.proofs.Worlds.{members_by, member_of, members, packet_of, Stable, NoneComes}
-use Rattle.mu_model_mesh_completion.proofs.Happens.{Wire, Does, Takes, BodyAimed, Aimed, time_does, packet_does}
+use Rattle.mu_model_mesh_completion.proofs.Happens.{Wire, Takes, BodyAimed, Aimed, time_does, packet_does}
 use Rattle.mu_model_mesh_completion.proofs.Each.{map_joined, all_joined, all_parts, IsTried, Goes, each_goes}
 
 -- ---- members that were handed their moments

@@ -1,5 +1,5 @@
 -- The worked row.
-use Rattle.std.proofs.Common.{◌≡◌, ◌<◌, ◌≤◌, ℕ, zero, suc, nat_eq, Bool, true, false, List, [], ◌∷◌, refl, sym, ap, subst, cond, arith, Option, Some, None, inl}
+use Rattle.std.proofs.Common.{◌≡◌, ◌<◌, ℕ, zero, suc, nat_eq, Bool, true, false, [], ◌∷◌, refl, subst, cond, arith, Some, None, inl}
 use Rattle.std.specs.Prelude.{slice_index}
 use Rattle.std.proofs.lemmas.Bool.{eqb-true}
 use Rattle.mu_model_client.specs.Begin.{is_ended}
@@ -7,7 +7,7 @@ use Rattle.mu_model_script.specs.Event.{Node, Updater}
 use Rattle.mu_model_script.specs.Tokens.{Hex}
 use Rattle.mu_model_script.specs.Ranges.{IsInRange}
 use Rattle.mu_model_world.specs.World as w
-use Rattle.mu_model_mesh.specs.Mesh.{UpdaterMember, Mesh, new_mesh, node_at, updater_at}
+use Rattle.mu_model_mesh.specs.Mesh.{UpdaterMember, new_mesh}
 use Rattle.mu_model_mesh_completion.specs.Worked.{scene, OneNode}
 use Rattle.mu_model_mesh_completion.proofs.Kept.{Kept}
 use Rattle.mu_model_mesh_completion.proofs.KeptLines.{LineLaws, line_fits, line_kept}

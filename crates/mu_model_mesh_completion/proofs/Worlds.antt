@@ -1,7 +1,7 @@
 -- The members of a world, and how an event changes them.
-use Rattle.std.proofs.Common.{◌≡◌, ◌<◌, ◌+◌, ◌-◌, ℕ, zero, suc, nat_eq, Bool, true, false, List, [], ◌∷◌, ◌++◌, length, map, replicate, refl, sym, ap, subst, ◌∙◌, cond, arith, max, Option, Some, None}
-use Rattle.std.specs.Prelude.{◌==◌, Contains, slice_index_or}
-use Rattle.std.specs.List.{AllByRecursion, flat_map}
+use Rattle.std.proofs.Common.{◌≡◌, ◌<◌, ℕ, zero, suc, nat_eq, Bool, true, false, List, [], ◌∷◌, ◌++◌, map, refl, sym, ap, subst, ◌∙◌, cond, arith, Option, Some, None}
+use Rattle.std.specs.Prelude.{Contains, slice_index_or}
+use Rattle.std.specs.List.{flat_map}
 use Rattle.std.specs.Map.{lookup, set_value}
 use Rattle.std.proofs.lemmas.Bool.{eqb-true, ne_eqb, eq-eqb}
 use Rattle.mu_model_wire.specs.Packet.{Packet}
@@ -16,7 +16,7 @@ use Rattle.mu_model_world.specs.Outcomes.{ran, happens, happens_by}
 use Rattle.mu_model_mesh.specs.Mesh.{UpdaterMember, DistributorMember, Mesh, node_at, updater_at, distributor_at}
 use Rattle.mu_model_mesh.specs.MeshOutcomes.{MeshOutcome, of_nodes, all_of_nodes, updater_ran, dist_ran, dist_happens, dist_happens_by}
 use Rattle.mu_model_mesh_completion.specs.Settled.{IsAtRest}
-use Rattle.mu_model_completion.specs.Turn.{Member, Part, IsNode, IsUpdater, Body, Asks, Replies, Sent}
+use Rattle.mu_model_completion.specs.Turn.{Member, IsNode, IsUpdater, Body, Asks, Replies, Sent}
 
 -- ---- members
 

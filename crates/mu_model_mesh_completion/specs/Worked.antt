@@ -1,5 +1,5 @@
 -- Worked row: a script with one updater and one node whose bank is one page.
-use Rattle.std.specs.Prelude.{ℕ, ◌≡◌, List, [], ◌∷◌}
+use Rattle.std.specs.Prelude.{◌≡◌, List, [], ◌∷◌}
 use Rattle.mu_model_script.specs.Event.{Event, Node, Updater}
 use Rattle.mu_model_script.specs.Tokens.{Hex}
 use Rattle.mu_model_updater.specs.Updater.{UpdaterLine}
