@@ -19,6 +19,7 @@ use Rattle.mu_model_mesh.specs.MeshOutcomes.{mesh_begun}
 use Rattle.mu_model_completion.specs.Completion as typed
 use Rattle.mu_model_completion.specs.Completion.{at_address, rows_at, drops_at, IsQuiet, IsUpdate, NoneTwice, CanBegin, push_turns, applying, succeeded, PushCompletes, PushTakesAll, PullCompletes, PushDropsNobody, PullDropsNobody}
 use Rattle.mu_model_completion.specs.Turn.{Member, IsNode, IsUpdater, settle}
+use Rattle.mu_model_mesh_completion.proofs.Apart.{true_false}
 use Rattle.mu_model_mesh_completion.specs.Settled as settled
 use Rattle.mu_model_mesh_completion.specs.Settled.{JobHasMessages, IsWorld, IsLine, CanSettle, DropsNobody}
 use Rattle.mu_model_mesh_completion.specs.Laws.{SettlesTo, PushSettles, PushSettlesNoSooner, PullSettles, PushSettleDropsNobody, PullSettleDropsNobody}
@@ -104,9 +105,6 @@ updater_fits images line m world can a u at true t =
     inr (subst (λ (x : UpdaterMember). ClientFits x.updater.client x.updater.image.octets) is (begins_fit images line can.range))
 updater_fits images line m world can a u at false t =
     inl (can.ended a u (λ e. true_false (sym (eq-eqb a line.address e) ∙ t)) at)
-  where
-    true_false : true ≡ false → ⊥
-    true_false e = cc
 
 member_fits : Images → (line : UpdaterLine) (m : Mesh) → IsWorld m → CanSettle line m → (a : ℕ) (n : Option w.Member) (u : Option UpdaterMember) → node_at m a ≡ n → updater_at m a ≡ u
     → AllByRecursion MemberFits (members_by a n u)
@@ -140,9 +138,6 @@ receivers_alone line m world (a ∷ to) h = (node_alone m world a h.0.node h.0.f
 group_alone_by : (m : Mesh) → IsWorld m → (g : ℕ) → (g ≡ 0) ⊎ (0xC000 ≤ g) → (g == 0) ≡ false → (o : Option DistributorMember) → distributor_at m g ≡ o → o ≡ None
 group_alone_by m world g some other None e = refl
 group_alone_by m world g (inl none) other (Some d) e = absurd (true_false (sym (eq-eqb g 0 none) ∙ other))
-  where
-    true_false : true ≡ false → ⊥
-    true_false k = cc
 group_alone_by m world g (inr above) other (Some d) e = let below = (world.distributors g d e).0 in absurd (omega (arith, above, below))
 
 updater_aims : BeginsSound → (line : UpdaterLine) (m : Mesh) → IsWorld m → CanSettle line m → ClientAims (NoDistributorAt m) (updater_of line).client line.content
@@ -162,9 +157,6 @@ aims_by begins line m world can a u at true t =
     inr (subst (λ (x : UpdaterMember). ClientAims (NoDistributorAt m) x.updater.client x.updater.image.octets) is (updater_aims begins line m world can))
 aims_by begins line m world can a u at false t =
     inl (can.ended a u (λ e. true_false (sym (eq-eqb a line.address e) ∙ t)) at)
-  where
-    true_false : true ≡ false → ⊥
-    true_false e = cc
 
 member_aims : BeginsSound → (line : UpdaterLine) (m : Mesh) → IsWorld m → CanSettle line m → (a : ℕ) (n : Option w.Member) (u : Option UpdaterMember) → updater_at m a ≡ u → AllByRecursion (MemberAims (NoDistributorAt m)) (members_by a n u)
 member_aims begins line m world can a (Some n) u up = (tt, tt)
@@ -194,9 +186,6 @@ QuietBut u x = (x.config.address == u) ≡ false → IsQuiet x.part
 member_quiet : (line : UpdaterLine) (m : Mesh) → CanSettle line m → (a : ℕ) (n : Option w.Member) (u : Option UpdaterMember) → updater_at m a ≡ u → AllByRecursion (QuietBut line.address) (members_by a n u)
 member_quiet line m can a (Some n) u up = ((λ e. tt), tt)
 member_quiet line m can a None (Some u) up = ((λ e. can.ended a u (λ is. true_false (sym (eq-eqb a line.address is) ∙ e)) up), tt)
-  where
-    true_false : true ≡ false → ⊥
-    true_false e = cc
 member_quiet line m can a None None up = tt
 
 all_quiet : (line : UpdaterLine) (m : Mesh) → CanSettle line m → (bs : List ℕ) → AllByRecursion (QuietBut line.address) (flat_map (member_of m) bs)

@@ -13,6 +13,7 @@ use Rattle.mu_model_world.specs.World.{config_of}
 use Rattle.mu_model_mesh.specs.Mesh.{UpdaterMember, Mesh, node_at, updater_at}
 use Rattle.mu_model_completion.specs.Completion.{at_address, Distinct, rows_of, rows_in, drop_of, drops_of, drops_in, NoneTwice}
 use Rattle.mu_model_completion.specs.Turn.{Member, Part, IsNode, IsUpdater}
+use Rattle.mu_model_mesh_completion.proofs.Apart.{true_false, none_some}
 use Rattle.mu_model_mesh_completion.specs.Settled.{DropsNobody}
 use Rattle.mu_model_mesh_completion.proofs.Worlds.{members_by, member_of, members}
 
@@ -43,9 +44,6 @@ found_by m a b bs x true t is at h k =
 found_by m a b bs x false t is at h k =
     let ne : b ≡ a → ⊥ = λ e. true_false (sym (eq-eqb a b (sym e)) ∙ t) in
     skipped a b (member_of m b) (flat_map (member_of m) bs) ne (own_address b (node_at m b) (updater_at m b)) ∙ k h
-  where
-    true_false : true ≡ false → ⊥
-    true_false e = cc
 
 pub found : (m : Mesh) (a : ℕ) (bs : List ℕ) (x : Member) → member_of m a ≡ x ∷ [] → x.config.address ≡ a → list_any (nat_eq a) bs ≡ true → at_address a (flat_map (member_of m) bs) ≡ Some x
 found m a [] x is at h = cc
@@ -99,9 +97,6 @@ there_by line m x None None at is other = cc
 there : (line : UpdaterLine) (m : Mesh) (x : Member) → at_address line.address (members m) ≡ Some x → ((s : NodeState) → IsNode s ≡ x.part → ⊥) → There line m x.part
 there line m x e other = there_by line m x (node_at m line.address) (updater_at m line.address) refl (back m line.address m.order x e) other
 
-some_none : {A : Type 0} {a : A} → None ≡ Some a → ⊥
-some_none e = cc
-
 -- its rows, and the drops of its receivers
 pub record Rows (line : UpdaterLine) (m : Mesh) (shown : List Row) : Type 0 where
   pub member : UpdaterMember
@@ -111,13 +106,13 @@ pub record Rows (line : UpdaterLine) (m : Mesh) (shown : List Row) : Type 0 wher
 pub rows_there : (line : UpdaterLine) (m : Mesh) (shown : List Row) (o : Option Member) → at_address line.address (members m) ≡ o → rows_in o ≡ Some shown → Rows line m shown
 rows_there line m shown None e r = cc
 rows_there line m shown (Some x) e r =
-    let t : There line m x.part = there line m x e (λ s is. some_none (ap rows_of is ∙ r)) in
+    let t : There line m x.part = there line m x e (λ s is. none_some (ap rows_of is ∙ r)) in
     let own : Some (rows t.member.updater.client) ≡ Some shown = ap rows_of t.same ∙ r in
     record { member = t.member; found = t.found; rows = cc }
 
 pub drops_there : (line : UpdaterLine) (m : Mesh) (o : Option Member) → at_address line.address (members m) ≡ o → drops_in o ≡ Some (map (λ a. None) line.receivers) → DropsNobody line m
 drops_there line m None e d = cc
 drops_there line m (Some x) e d =
-    let t : There line m x.part = there line m x e (λ s is. some_none (ap drops_of is ∙ d)) in
+    let t : There line m x.part = there line m x e (λ s is. none_some (ap drops_of is ∙ d)) in
     let own : Some (map drop_of t.member.updater.client.receivers) ≡ Some (map (λ a. None) line.receivers) = ap drops_of t.same ∙ d in
     record { member = t.member; found = t.found; drops = cc }

@@ -29,6 +29,7 @@ use Rattle.mu_model_mesh.specs.MeshOutcomes as mo
 use Rattle.mu_model_mesh.specs.MeshOutcomes.{MeshOutcome, of_nodes, updater_ran, updater_later, dist_ran, dist_later, timed_by, given_by, given_packet, unread_if}
 use Rattle.mu_model_mesh.specs.Settle.{turn_comes}
 use Rattle.mu_model_completion.specs.Turn.{Member, IsNode, IsUpdater, Body, Asks, Replies, Sent, Moved, asked_by, replied_by, part_timed, timed, part_given, is_for, given_if, given}
+use Rattle.mu_model_mesh_completion.proofs.Apart.{none_some}
 use Rattle.mu_model_mesh_completion.proofs.Replies.{reply_read, reply_asks_nothing}
 use Rattle.mu_model_mesh_completion.proofs.Members.{MemberFits, Handed, BodyFits, SentFits}
 use Rattle.mu_model_mesh_completion.proofs.Worlds.{members_by, member_of, body_octets, packet_of, only, none, Stable, NoneComes, NodeRan, node_ran, happens_only, UpdaterRan, updater_went, DistRan, dist_went, dist_only}
@@ -279,9 +280,6 @@ not_asked m address d p true t aimed at h =
     let same : p.to ≡ address = eqb-true p.to address t in
     let there : distributor_at m p.to ≡ Some d = subst (λ a. distributor_at m a ≡ Some d) (sym same) at in
     absurd (none_some (sym aimed ∙ there))
-  where
-    none_some : {A : Type 0} {a : A} → None ≡ Some a → ⊥
-    none_some e = cc
 not_asked m address d p false t aimed at h = dist_passes address d.state d.moment (packet_of p) t h
 
 dist_body : Wire → (m : Mesh) (address : ℕ) (d : DistributorMember) (p : Sent) (body : Body) → BodyFits body → BodyAimed m p.to body → distributor_at m address ≡ Some d → Rests d.state

@@ -8,6 +8,7 @@ use Rattle.mu_model_wire.specs.Packet.{Packet}
 use Rattle.mu_model_world.specs.World as w
 use Rattle.mu_model_mesh.specs.Mesh.{UpdaterMember, Mesh, is_member, node_at, updater_at}
 use Rattle.mu_model_completion.specs.Completion.{NoneTwice}
+use Rattle.mu_model_mesh_completion.proofs.Apart.{true_false, some_none}
 use Rattle.mu_model_mesh_completion.specs.Settled as settled
 use Rattle.mu_model_mesh_completion.proofs.Asks.{ClientFits}
 use Rattle.mu_model_mesh_completion.proofs.ReadOctets.{Reads}
@@ -47,12 +48,6 @@ pub record SameOrder (m next : Mesh) (sent : List Packet) : Type 0 where
   pub order : next.order ≡ m.order
   pub distributors : next.distributors ≡ m.distributors
   pub bag : next.nodes.bag ≡ m.nodes.bag ++ sent
-
-pub true_false : true ≡ false → ⊥
-true_false e = cc
-
-some_none : {A : Type 0} {a : A} → Some a ≡ None → ⊥
-some_none e = cc
 
 member_stays : (m next : Mesh) (sent : List Packet) (a : ℕ) → SameOrder m next sent → is_member m a ≡ true → is_member next a ≡ true
 member_stays m next sent a s h = ap (λ (bs : List ℕ). list_any (nat_eq a) bs) s.order ∙ h

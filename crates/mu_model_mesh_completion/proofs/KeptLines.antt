@@ -24,10 +24,11 @@ use Rattle.mu_model_mesh.specs.Mesh.{UpdaterMember, DistributorMember, Mesh, is_
 use Rattle.mu_model_mesh.specs.MeshOutcomes.{mesh_begun, mesh_outcomes, of_nodes, in_order, with_new_updater, active_by, phase_by, rows_by, packet_by, stocked_by}
 use Rattle.mu_model_mesh.specs.MeshJudged.{against_new, against_past, bank, mesh_objection}
 use Rattle.mu_model_completion.specs.Completion.{NoneTwice}
+use Rattle.mu_model_mesh_completion.proofs.Apart.{true_false}
 use Rattle.mu_model_mesh_completion.specs.Settled.{IsLine}
 use Rattle.mu_model_mesh_completion.proofs.Begins.{Images, begins_fit}
 use Rattle.mu_model_mesh_completion.proofs.ReadOctets.{octets_read}
-use Rattle.mu_model_mesh_completion.proofs.Kept.{true_false, Kept, nothing_kept, node_added, updater_added}
+use Rattle.mu_model_mesh_completion.proofs.Kept.{Kept, nothing_kept, node_added, updater_added}
 use Rattle.mu_model_mesh_completion.proofs.KeptEvents.{RunLaws, AllKept, given_kept, time_kept, cut_kept, tear_kept}
 
 pub record LineLaws : Type 0 where

@@ -13,6 +13,7 @@ use Rattle.mu_model_mesh.specs.MeshOutcomes.{MeshOutcome, mesh_begun, mesh_outco
 use Rattle.mu_model_mesh.specs.MeshJudged.{mesh_objection, mesh_judged_by}
 use Rattle.mu_model_mesh.specs.MeshRun.{MeshMoves, IsDone, MeshRun}
 use Rattle.mu_model_mesh.specs.Settle.{turn_comes, EachComes, given_to, AllComes, none_left, comes, Turns, Settles}
+use Rattle.mu_model_mesh_completion.proofs.Apart.{none_some}
 use Rattle.mu_model_mesh_completion.specs.Settled.{IsWorld}
 use Rattle.mu_model_mesh_completion.specs.Laws.{NoDistributor, WorldsOfScripts}
 use Rattle.mu_model_mesh_completion.proofs.Kept.{Kept, nothing_kept}
@@ -28,9 +29,6 @@ of_all P (v ∷ xs) x all (suc k, within, is) = of_all P xs x all.1 (k, omega (a
 
 one_of : (outs : List MeshOutcome) (next : Mesh) (text : List ℕ) → AllKept outs → Contains outs (record { mesh = next; text = text }) → Kept next
 one_of outs next text all within = of_all (λ (o : MeshOutcome). Kept o.mesh) outs (record { mesh = next; text = text }) all within
-
-none_some : {A : Type 0} {a : A} → None ≡ Some a → ⊥
-none_some e = cc
 
 pub world_of : (m : Mesh) → Kept m → IsWorld m
 world_of m k = record {

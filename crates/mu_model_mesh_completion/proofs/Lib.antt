@@ -1,3 +1,4 @@
+pub mod Apart
 pub mod Replies
 pub mod Shown
 pub mod Served

@@ -15,6 +15,7 @@ use Rattle.mu_model_world.specs.World.{Tear, config_of}
 use Rattle.mu_model_world.specs.Outcomes.{ran, happens, happens_by}
 use Rattle.mu_model_mesh.specs.Mesh.{UpdaterMember, DistributorMember, Mesh, node_at, updater_at, distributor_at}
 use Rattle.mu_model_mesh.specs.MeshOutcomes.{MeshOutcome, of_nodes, all_of_nodes, updater_ran, dist_ran, dist_happens, dist_happens_by}
+use Rattle.mu_model_mesh_completion.proofs.Apart.{true_false, some_none}
 use Rattle.mu_model_mesh_completion.specs.Settled.{IsAtRest}
 use Rattle.mu_model_completion.specs.Turn.{Member, IsNode, IsUpdater, Body, Asks, Replies, Sent}
 
@@ -186,9 +187,6 @@ rest_by m next address b new k true t s rest here there h =
     subst IsAtRest is rest
 rest_by m next address b new k false t s rest here there h =
     s.at_rest b k (sym (there b (λ is. true_false (sym (eq-eqb address b is) ∙ t))) ∙ h)
-  where
-    true_false : true ≡ false → ⊥
-    true_false e = cc
 
 pub dist_went : (m : Mesh) (address : ℕ) (old d : DistributorMember) (first : List ℕ) (step : DistStep) → Stable m → distributor_at m address ≡ Some old → step.sent ≡ [] → IsAtRest (record d { state = step.next })
     → DistRan m (dist_ran m address d first step).mesh
@@ -204,9 +202,6 @@ dist_went m address old d first step s at quiet rest =
       stable = record { at_rest = λ b k h. rest_by m next address b new k (nat_eq address b) refl s rest here there h; no_tear = s.no_tear };
       none_comes = λ b h. there b (λ is. some_none (sym at ∙ (ap (λ c. distributor_at m c) is ∙ h))) ∙ h;
     }
-  where
-    some_none : {A : Type 0} {a : A} → Some a ≡ None → ⊥
-    some_none e = cc
 
 dist_only_by : (m : Mesh) (address : ℕ) (d : DistributorMember) (event : NodeEvent) (first : List ℕ) (o : MeshOutcome) (worn : Bool) (tear : Option Tear) → tear ≡ None
     → Contains (cond worn [] (dist_happens_by m address d event first tear)) o → dist_ran m address d first (dist_step address d.state event d.moment) ≡ o
