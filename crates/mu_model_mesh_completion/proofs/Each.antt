@@ -8,7 +8,7 @@ use Rattle.mu_model_mesh.specs.MeshOutcomes.{MeshOutcome}
 use Rattle.mu_model_mesh.specs.Settle.{EachComes}
 use Rattle.mu_model_completion.specs.Completion.{NoneTwice}
 use Rattle.mu_model_completion.specs.Turn.{Member, Sent, Moved, stands}
-use Rattle.mu_model_mesh_completion.proofs.Worlds.{member_of, packet_of, Stable, NoneComes}
+use Rattle.mu_model_mesh_completion.proofs.Worlds.{member_of, packet_of, Stable, NoneComes, NoneGoes}
 use Rattle.mu_model_mesh_completion.proofs.Happens.{Does}
 
 -- ---- lists
@@ -60,6 +60,7 @@ pub record Goes (m next : Mesh) (addresses : List ℕ) (step : Member → Moved)
   pub order : next.order ≡ m.order
   pub stable : Stable next
   pub none_comes : NoneComes m next
+  pub none_goes : NoneGoes m next
 
 same_there : (f g : ℕ → List Member) (a : ℕ) (bs : List ℕ) → ((b : ℕ) → (a ≡ b → ⊥) → f b ≡ g b) → AllByRecursion (λ b. a ≢ b) bs → flat_map f bs ≡ flat_map g bs
 same_there f g a [] h k = refl
@@ -100,6 +101,7 @@ module _ (step : Member → Moved) (comes : Mesh → ℕ → List MeshOutcome) (
         order = g.order ∙ d.order;
         stable = g.stable;
         none_comes = λ b h. g.none_comes b (d.none_comes b h);
+        none_goes = λ b h. d.none_goes b (g.none_goes b h);
       }
 
   passed : (m next : Mesh) (a : ℕ) (bs : List ℕ) → AllByRecursion (λ b. a ≢ b) bs → AllByRecursion (λ (x : Member). step x ≡ stands x) (member_of m a) → Goes m next bs step → Goes m next (a ∷ bs) step
@@ -118,6 +120,7 @@ module _ (step : Member → Moved) (comes : Mesh → ℕ → List MeshOutcome) (
         order = g.order;
         stable = g.stable;
         none_comes = g.none_comes;
+        none_goes = g.none_goes;
       }
 
   by_head : (b : Bool) (a : ℕ) (bs : List ℕ) (m : Mesh) (text : List ℕ) (next : Mesh) → Stable m → Q m → AllByRecursion (λ b. a ≢ b) bs → IsTried P step b (member_of m a) → AllByRecursion (Tried m) bs
@@ -130,6 +133,6 @@ module _ (step : Member → Moved) (comes : Mesh → ℕ → List MeshOutcome) (
 
   pub each_goes : (bs : List ℕ) (m : Mesh) (text : List ℕ) (next : Mesh) → Stable m → Q m → NoneTwice bs → AllByRecursion (Tried m) bs → EachComes comes (filter test bs) m text next → Goes m next bs step
   each_goes [] m text next s q once tried h =
-      subst (λ (x : Mesh). Goes m x [] step) (sym h.1) (record { done = refl; there = λ b k. refl; bag = sym (append-nil m.nodes.bag); order = refl; stable = s; none_comes = λ b h. h })
+      subst (λ (x : Mesh). Goes m x [] step) (sym h.1) (record { done = refl; there = λ b k. refl; bag = sym (append-nil m.nodes.bag); order = refl; stable = s; none_comes = λ b h. h; none_goes = λ b h. h })
   each_goes (a ∷ bs) m text next s q once tried h =
       by_head (test a) a bs m text next s q once.0 tried.0 tried.1 (λ mid rest t r k l. each_goes bs mid rest next t r once.1 k l) h

@@ -32,7 +32,7 @@ use Rattle.mu_model_completion.specs.Turn.{Member, IsNode, IsUpdater, Body, Asks
 use Rattle.mu_model_mesh_completion.proofs.Apart.{none_some}
 use Rattle.mu_model_mesh_completion.proofs.Replies.{reply_read, reply_asks_nothing}
 use Rattle.mu_model_mesh_completion.proofs.Members.{MemberFits, Handed, BodyFits, SentFits}
-use Rattle.mu_model_mesh_completion.proofs.Worlds.{members_by, member_of, body_octets, packet_of, only, none, Stable, NoneComes, NodeRan, node_ran, happens_only, UpdaterRan, updater_went, DistRan, dist_went, dist_only}
+use Rattle.mu_model_mesh_completion.proofs.Worlds.{members_by, member_of, body_octets, packet_of, only, none, Stable, NoneComes, NoneGoes, NodeRan, node_ran, happens_only, UpdaterRan, updater_went, DistRan, dist_went, dist_only}
 use Rattle.mu_model_mesh_completion.proofs.Resting.{Rests, StepRests, dist_time_rests, dist_hears, dist_passes}
 
 pub record Wire : Type 0 where
@@ -50,11 +50,12 @@ pub record Does (m next : Mesh) (address : ℕ) (step : Member → Moved) : Type
   pub order : next.order ≡ m.order
   pub stable : Stable next
   pub none_comes : NoneComes m next
+  pub none_goes : NoneGoes m next
 
 does_at : (m next : Mesh) (address : ℕ) (step : Member → Moved) (x : Member) → member_of m address ≡ x ∷ [] → member_of next address ≡ (step x).member ∷ []
     → ((b : ℕ) → (address ≡ b → ⊥) → member_of next b ≡ member_of m b) → next.nodes.bag ≡ m.nodes.bag ++ map packet_of (step x).sent → next.order ≡ m.order → Stable next
-    → NoneComes m next → Does m next address step
-does_at m next address step x is here there bag order stable none_comes = record {
+    → NoneComes m next → NoneGoes m next → Does m next address step
+does_at m next address step x is here there bag order stable none_comes none_goes = record {
   here = here ∙ sym (ap (map (λ (y : Member). (step y).member)) is);
   there = there;
   bag =
@@ -64,6 +65,7 @@ does_at m next address step x is here there bag order stable none_comes = record
   order = order;
   stable = stable;
   none_comes = none_comes;
+  none_goes = none_goes;
 }
 
 replies_same : (from : ℕ) (rs : List (ℕ × Reply)) → map (reply_packet from) rs ≡ map packet_of (map (replied_by from) rs)
@@ -83,6 +85,7 @@ does_rest m next address step is r = record {
   order = r.order;
   stable = r.stable;
   none_comes = r.none_comes;
+  none_goes = r.none_goes;
 }
 
 nobody_else : (m : Mesh) (address : ℕ) → node_at m address ≡ None → updater_at m address ≡ None → member_of m address ≡ []
@@ -110,7 +113,7 @@ node_time m address n u d out s at h =
     r.there
     (r.bag
     ∙ ap (λ (ps : List Packet). m.nodes.bag ++ ps) (replies_same address (on_time (e.at_moment n.state later.moment) (update_phase (e.at_moment n.state later.moment))).replies ∙ ap (λ t. map packet_of (node_timed address n t).sent) moment))
-    r.order r.stable r.none_comes
+    r.order r.stable r.none_comes r.none_goes
 
 updater_time : (m : Mesh) (address : ℕ) (u : UpdaterMember) (d : Option DistributorMember) (out : MeshOutcome) → Stable m → node_at m address ≡ None → updater_at m address ≡ Some u
     → u.updater.client.sending.from ≡ address → Contains (timed_by m address (moment_by None (Some u) d + 100) None (Some u) d) out → Does m out.mesh address timed
@@ -130,7 +133,7 @@ updater_time m address u d out s nobody_there at from h =
     ∙ ap (λ (ps : List Packet). m.nodes.bag ++ ps)
     (ap (λ (a : ℕ). map (request_packet a) (due c image later.moment).packets) from
     ∙ (asks_same address (due c image later.moment).packets ∙ ap (λ t. map packet_of (map (asked_by address) (due c image t).packets)) moment)))
-    r.order r.stable r.none_comes
+    r.order r.stable r.none_comes r.none_goes
 
 dist_time : (m : Mesh) (address : ℕ) (d : DistributorMember) (out : MeshOutcome) → Stable m → node_at m address ≡ None → updater_at m address ≡ None → distributor_at m address ≡ Some d
     → Contains (timed_by m address (d.moment + 100) None None (Some d)) out → Does m out.mesh address timed
@@ -206,7 +209,7 @@ node_packet wire m number address n p first out s at fit its handed h =
     (r.bag
     ∙ ap (λ (ps : List Packet). m.nodes.bag ++ ps)
     (ap (λ (st : NodeStep). st.sent) does ∙ (moved.1 ∙ sym (ap (λ (g : Moved). map packet_of g.sent) goes))))
-    r.order r.stable r.none_comes
+    r.order r.stable r.none_comes r.none_goes
 
 -- what a client is left with after a packet that is addressed to it; it sends nothing
 abbrev client_after : Client → ℕ → ℕ → Body → Client
@@ -258,7 +261,7 @@ updater_packet wire m number address u p first out s nobody_there at fit to from
     (r.bag
     ∙ ap (λ (ps : List Packet). m.nodes.bag ++ ps)
     (does.1 ∙ ap (λ (ps : List Sent). map packet_of ps) (moved.1 ∙ sym (ap (λ (g : Moved). g.sent) goes))))
-    r.order r.stable r.none_comes
+    r.order r.stable r.none_comes r.none_goes
 
 -- a member to which a packet is addressed
 pub record Takes (p : Sent) (x : Member) : Type 0 where

@@ -90,6 +90,10 @@ pub record Stable (m : Mesh) : Type 0 where
 abbrev pub NoneComes : Mesh → Mesh → Type 0
 NoneComes m next = (b : ℕ) → distributor_at m b ≡ None → distributor_at next b ≡ None
 
+-- and none goes
+abbrev pub NoneGoes : Mesh → Mesh → Type 0
+NoneGoes m next = (b : ℕ) → distributor_at next b ≡ None → distributor_at m b ≡ None
+
 -- ---- a node goes through a step
 
 pub record NodeRan (m next : Mesh) (address : ℕ) (n : w.Member) (step : NodeStep) : Type 0 where
@@ -99,6 +103,7 @@ pub record NodeRan (m next : Mesh) (address : ℕ) (n : w.Member) (step : NodeSt
   pub order : next.order ≡ m.order
   pub stable : Stable next
   pub none_comes : NoneComes m next
+  pub none_goes : NoneGoes m next
 
 tear_by : (m next : Mesh) (address : ℕ) (n : w.Member) (b : ℕ) (k : w.Member) (t : Bool) → nat_eq address b ≡ t → Stable m → n.tear ≡ None → node_at next address ≡ Some n
     → ((c : ℕ) → (address ≡ c → ⊥) → node_at next c ≡ node_at m c) → node_at next b ≡ Some k → k.tear ≡ None
@@ -128,6 +133,7 @@ node_ran m address old n first step s at no_tear =
       order = refl;
       stable = record { at_rest = s.at_rest; no_tear = λ b k h. tear_by m next address new b k (nat_eq address b) refl s no_tear here there h };
       none_comes = λ b h. h;
+      none_goes = λ b h. h;
     }
 
 happens_only_by : (m : Mesh) (address : ℕ) (n : w.Member) (event : NodeEvent) (first : List ℕ) (o : MeshOutcome) (worn : Bool) (tear : Option Tear) → tear ≡ None
@@ -152,6 +158,7 @@ pub record UpdaterRan (m next : Mesh) (address : ℕ) (u : UpdaterMember) (step 
   pub order : next.order ≡ m.order
   pub stable : Stable next
   pub none_comes : NoneComes m next
+  pub none_goes : NoneGoes m next
 
 pub updater_went : (m : Mesh) (address : ℕ) (old u : UpdaterMember) (first : List ℕ) (step : UpdaterStep) → Stable m → node_at m address ≡ None → updater_at m address ≡ Some old
     → UpdaterRan m (updater_ran m address u first step).mesh address u step
@@ -167,6 +174,7 @@ updater_went m address old u first step s nobody_there at =
       order = refl;
       stable = record { at_rest = s.at_rest; no_tear = s.no_tear };
       none_comes = λ b h. h;
+      none_goes = λ b h. h;
     }
 
 -- ---- a distributor at rest goes through a step
@@ -177,6 +185,7 @@ pub record DistRan (m next : Mesh) : Type 0 where
   pub order : next.order ≡ m.order
   pub stable : Stable next
   pub none_comes : NoneComes m next
+  pub none_goes : NoneGoes m next
 
 rest_by : (m next : Mesh) (address b : ℕ) (new k : DistributorMember) (t : Bool) → nat_eq address b ≡ t → Stable m → IsAtRest new → distributor_at next address ≡ Some new
     → ((c : ℕ) → (address ≡ c → ⊥) → distributor_at next c ≡ distributor_at m c) → distributor_at next b ≡ Some k → IsAtRest k
@@ -187,6 +196,10 @@ rest_by m next address b new k true t s rest here there h =
     subst IsAtRest is rest
 rest_by m next address b new k false t s rest here there h =
     s.at_rest b k (sym (there b (λ is. true_false (sym (eq-eqb address b is) ∙ t))) ∙ h)
+
+goes_by : (a b : ℕ) (t : Bool) → nat_eq a b ≡ t → (f g : ℕ → Option DistributorMember) (new : DistributorMember) → f a ≡ Some new → ((c : ℕ) → (a ≡ c → ⊥) → f c ≡ g c) → f b ≡ None → g b ≡ None
+goes_by a b true t f g new here there h = absurd (some_none (sym here ∙ (ap f (eqb-true a b t) ∙ h)))
+goes_by a b false t f g new here there h = sym (there b (λ is. true_false (sym (eq-eqb a b is) ∙ t))) ∙ h
 
 pub dist_went : (m : Mesh) (address : ℕ) (old d : DistributorMember) (first : List ℕ) (step : DistStep) → Stable m → distributor_at m address ≡ Some old → step.sent ≡ [] → IsAtRest (record d { state = step.next })
     → DistRan m (dist_ran m address d first step).mesh
@@ -201,6 +214,7 @@ dist_went m address old d first step s at quiet rest =
       order = refl;
       stable = record { at_rest = λ b k h. rest_by m next address b new k (nat_eq address b) refl s rest here there h; no_tear = s.no_tear };
       none_comes = λ b h. there b (λ is. some_none (sym at ∙ (ap (λ c. distributor_at m c) is ∙ h))) ∙ h;
+      none_goes = λ b h. goes_by address b (nat_eq address b) refl (distributor_at next) (distributor_at m) new here there h;
     }
 
 dist_only_by : (m : Mesh) (address : ℕ) (d : DistributorMember) (event : NodeEvent) (first : List ℕ) (o : MeshOutcome) (worn : Bool) (tear : Option Tear) → tear ≡ None
