@@ -1,5 +1,5 @@
 -- What can't be equal.
-use Rattle.std.proofs.Common.{◌≡◌, true, false, Option, Some, None}
+use Rattle.std.proofs.Common.{◌≡◌, true, false, Some, None}
 
 pub true_false : true ≡ false → ⊥
 true_false e = cc

@@ -119,7 +119,7 @@ members_fit images line m world can (b ∷ bs) =
 
 -- ---- requests go where no distributor is
 
-abbrev NoDistributorAt : Mesh → ℕ → Type 0
+abbrev pub NoDistributorAt : Mesh → ℕ → Type 0
 NoDistributorAt m b = distributor_at m b ≡ None
 
 node_alone_by : (m : Mesh) → IsWorld m → (a : ℕ) (n : w.Member) → node_at m a ≡ Some n → (o : Option DistributorMember) → distributor_at m a ≡ o → o ≡ None
@@ -168,7 +168,7 @@ members_aim begins line m world can [] = tt
 members_aim begins line m world can (b ∷ bs) =
     all_joined (MemberAims (NoDistributorAt m)) (member_of m b) (flat_map (member_of m) bs) (member_aims begins line m world can b (node_at m b) (updater_at m b) refl) (members_aim begins line m world can bs)
 
-here : Images → BeginsSound → (line : UpdaterLine) (m : Mesh) → IsWorld m → CanSettle line m → Here (NoDistributorAt m) (mesh_begun m) (members m)
+pub here : Images → BeginsSound → (line : UpdaterLine) (m : Mesh) → IsWorld m → CanSettle line m → Here (NoDistributorAt m) (mesh_begun m) (members m)
 here images begins line m world can = record {
   is = refl;
   stable = record { at_rest = can.at_rest; no_tear = can.no_tear };

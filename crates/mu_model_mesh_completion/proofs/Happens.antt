@@ -88,7 +88,7 @@ does_rest m next address step is r = record {
   none_goes = r.none_goes;
 }
 
-nobody_else : (m : Mesh) (address : ℕ) → node_at m address ≡ None → updater_at m address ≡ None → member_of m address ≡ []
+pub nobody_else : (m : Mesh) (address : ℕ) → node_at m address ≡ None → updater_at m address ≡ None → member_of m address ≡ []
 nobody_else m address n u = ap (λ (x : Option w.Member). members_by address x (updater_at m address)) n ∙ ap (λ (x : Option UpdaterMember). members_by address None x) u
 
 -- ---- time

@@ -20,3 +20,5 @@ pub mod KeptRuns
 pub mod Worked
 pub mod Resting
 pub mod Aims
+pub mod Exists
+pub mod Carried

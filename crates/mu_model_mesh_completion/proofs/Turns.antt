@@ -33,7 +33,7 @@ pub record Here (D : ℕ → Type 0) (m : Mesh) (ms : List Member) : Type 0 wher
   pub aims : AllByRecursion (MemberAims D) ms
   pub no_distributor : (b : ℕ) → D b → distributor_at m b ≡ None
 
-here_after : (D : ℕ → Type 0) (m next : Mesh) (ms : List Member) (step : Member → Moved) → Here D m ms → Goes m next m.order step
+pub here_after : (D : ℕ → Type 0) (m next : Mesh) (ms : List Member) (step : Member → Moved) → Here D m ms → Goes m next m.order step
     → AllByRecursion MemberFits (map (λ (x : Member). (step x).member) ms) → AllByRecursion (MemberAims D) (map (λ (x : Member). (step x).member) ms) → Here D next (map (λ (x : Member). (step x).member) ms)
 here_after D m next ms step h g fits aims = record {
   is = ap (λ (order : List ℕ). flat_map (member_of next) order) g.order ∙ (g.done ∙ ap (map (λ (x : Member). (step x).member)) h.is);
@@ -44,34 +44,34 @@ here_after D m next ms step h g fits aims = record {
   no_distributor = λ b d. g.none_comes b (h.no_distributor b d);
 }
 
-ready_fits : (ms : List Member) → AllByRecursion Ready ms → AllByRecursion MemberFits ms
+pub ready_fits : (ms : List Member) → AllByRecursion Ready ms → AllByRecursion MemberFits ms
 ready_fits [] h = tt
 ready_fits (x ∷ ms) h = (h.0.fits, ready_fits ms h.1)
 
 -- ---- time
 
-filter_all : (bs : List ℕ) → filter (λ b. true) bs ≡ bs
+pub filter_all : (bs : List ℕ) → filter (λ b. true) bs ≡ bs
 filter_all [] = refl
 filter_all (b ∷ bs) = ap (λ cs. b ∷ cs) (filter_all bs)
 
 module _ (laws : AllLaws) (wire : Wire) (D : ℕ → Type 0) (aim : AimLaws) where
-  times_ready : (ms : List Member) → AllByRecursion MemberFits ms → AllByRecursion Ready (map after_time ms)
+  pub times_ready : (ms : List Member) → AllByRecursion MemberFits ms → AllByRecursion Ready (map after_time ms)
   times_ready [] h = tt
   times_ready (x ∷ ms) h = let t = member_time laws x h.0 in (record { fits = t.member; handed = t.handed }, times_ready ms h.1)
 
-  times_send : (ms : List Member) → AllByRecursion MemberFits ms → AllByRecursion SentFits (flat_map sent_in_time ms)
+  pub times_send : (ms : List Member) → AllByRecursion MemberFits ms → AllByRecursion SentFits (flat_map sent_in_time ms)
   times_send [] h = tt
   times_send (x ∷ ms) h = all_joined SentFits (sent_in_time x) (flat_map sent_in_time ms) (member_time laws x h.0).sent (times_send ms h.1)
 
-  times_aim : (ms : List Member) → AllByRecursion (MemberAims D) ms → AllByRecursion (MemberAims D) (map after_time ms)
+  pub times_aim : (ms : List Member) → AllByRecursion (MemberAims D) ms → AllByRecursion (MemberAims D) (map after_time ms)
   times_aim [] h = tt
   times_aim (x ∷ ms) h = ((member_time_aims D aim x h.0).member, times_aim ms h.1)
 
-  sends_aim : (ms : List Member) → AllByRecursion (MemberAims D) ms → AllByRecursion (SentAims D) (flat_map sent_in_time ms)
+  pub sends_aim : (ms : List Member) → AllByRecursion (MemberAims D) ms → AllByRecursion (SentAims D) (flat_map sent_in_time ms)
   sends_aim [] h = tt
   sends_aim (x ∷ ms) h = all_joined (SentAims D) (sent_in_time x) (flat_map sent_in_time ms) (member_time_aims D aim x h.0).sent (sends_aim ms h.1)
 
-  time_goes : (m mid : Mesh) (text : List ℕ) (ms : List Member) → Here D m ms → EachComes turn_comes m.order m text mid → Goes m mid m.order timed
+  pub time_goes : (m mid : Mesh) (text : List ℕ) (ms : List Member) → Here D m ms → EachComes turn_comes m.order m text mid → Goes m mid m.order timed
   time_goes m mid text ms h e =
       each_goes timed turn_comes MemberFits (λ x. Unit {0}) (λ x a out s q fit k. time_does x a out s fit k) (λ x y a d q. q) (λ a. true) m.order m text mid h.stable tt h.once
       (all_parts MemberFits (member_of m) m.order (subst (λ xs. AllByRecursion MemberFits xs) (sym h.is) h.fits))
@@ -94,28 +94,28 @@ module _ (laws : AllLaws) (wire : Wire) (D : ℕ → Type 0) (aim : AimLaws) whe
   tried p true (x ∷ xs) h k = (record { fits = h.0.fits; handed = h.0.handed; its = k.0 }, tried p true xs h.1 k.1)
   tried p false (x ∷ xs) h k = (ap (given_if p x) k.0, tried p false xs h.1 k.1)
 
-  all_tried : (m : Mesh) (p : Sent) (bs : List ℕ) → AllByRecursion (λ a. AllByRecursion Ready (member_of m a)) bs → AllByRecursion (λ a. IsTried (Takes p) (given p) (takes m (packet_of p) a) (member_of m a)) bs
+  pub all_tried : (m : Mesh) (p : Sent) (bs : List ℕ) → AllByRecursion (λ a. AllByRecursion Ready (member_of m a)) bs → AllByRecursion (λ a. IsTried (Takes p) (given p) (takes m (packet_of p) a) (member_of m a)) bs
   all_tried m p [] h = tt
   all_tried m p (a ∷ bs) h = (tried p (takes m (packet_of p) a) (member_of m a) h.0 (takes_is m p a (node_at m a) (updater_at m a)), all_tried m p bs h.1)
 
-  slice_longer : (xs ys : List Packet) (k : ℕ) (x : Packet) → slice_get xs k ≡ Some x → slice_get (xs ++ ys) k ≡ Some x
+  pub slice_longer : (xs ys : List Packet) (k : ℕ) (x : Packet) → slice_get xs k ≡ Some x → slice_get (xs ++ ys) k ≡ Some x
   slice_longer [] ys k x h = cc
   slice_longer (y ∷ xs) ys zero x h = h
   slice_longer (y ∷ xs) ys (suc k) x h = slice_longer xs ys k x h
 
-  aimed : (m : Mesh) (to : ℕ) (body : Body) → ((b : ℕ) → D b → distributor_at m b ≡ None) → BodyAims D to body → BodyAimed m to body
+  pub aimed : (m : Mesh) (to : ℕ) (body : Body) → ((b : ℕ) → D b → distributor_at m b ≡ None) → BodyAims D to body → BodyAimed m to body
   aimed m to (Asks request) h k = h to k
   aimed m to (Replies reply) h k = tt
 
-  aimed_still : (m next : Mesh) (to : ℕ) (body : Body) → NoneComes m next → BodyAimed m to body → BodyAimed next to body
+  pub aimed_still : (m next : Mesh) (to : ℕ) (body : Body) → NoneComes m next → BodyAimed m to body → BodyAimed next to body
   aimed_still m next to (Asks request) h k = h to k
   aimed_still m next to (Replies reply) h k = tt
 
-  record Waits (number : ℕ) (p : Sent) (m : Mesh) : Type 0 where
-    at : slice_get m.nodes.bag number ≡ Some (packet_of p)
-    aims : Aimed m p
+  pub record Waits (number : ℕ) (p : Sent) (m : Mesh) : Type 0 where
+    pub at : slice_get m.nodes.bag number ≡ Some (packet_of p)
+    pub aims : Aimed m p
 
-  packet_goes : (m mid : Mesh) (number : ℕ) (text : List ℕ) (p : Sent) (ms : List Member) → Here D m ms → AllByRecursion Ready ms → SentFits p → SentAims D p → slice_get m.nodes.bag number ≡ Some (packet_of p)
+  pub packet_goes : (m mid : Mesh) (number : ℕ) (text : List ℕ) (p : Sent) (ms : List Member) → Here D m ms → AllByRecursion Ready ms → SentFits p → SentAims D p → slice_get m.nodes.bag number ≡ Some (packet_of p)
       → EachComes (given_to number) (addressees m (packet_of p)) m text mid → Goes m mid m.order (given p)
   packet_goes m mid number text p ms h ready fit to at e =
       each_goes (given p) (given_to number) (Takes p) (Waits number p) (λ x a out s q t k. packet_does wire x number a p out s q.at fit q.aims t k)
@@ -137,7 +137,7 @@ module _ (laws : AllLaws) (wire : Wire) (D : ℕ → Type 0) (aim : AimLaws) whe
   slice_at [] more x = refl
   slice_at (y ∷ before) more x = slice_at before more x
 
-  first_pending : (m : Mesh) (number : ℕ) (p : Sent) (ps : List Sent) → Pending m number (p ∷ ps) → slice_get m.nodes.bag number ≡ Some (packet_of p)
+  pub first_pending : (m : Mesh) (number : ℕ) (p : Sent) (ps : List Sent) → Pending m number (p ∷ ps) → slice_get m.nodes.bag number ≡ Some (packet_of p)
   first_pending m number p ps h = rw (h.bag, h.number_is) (slice_at h.before (map packet_of ps) (packet_of p))
 
   one_more : (before : List Packet) (x : Packet) → length before + 1 ≡ length (before ++ x ∷ [])
@@ -159,7 +159,7 @@ module _ (laws : AllLaws) (wire : Wire) (D : ℕ → Type 0) (aim : AimLaws) whe
   packets_ready p [] k h = tt
   packets_ready p (x ∷ ms) k h = let g = member_packet laws p x k h.0.fits h.0.handed in (record { fits = g.member; handed = g.handed }, packets_ready p ms k h.1)
 
-  packets_answered : (p : Sent) (ms : List Member) → SentFits p → AllByRecursion Ready ms → AllByRecursion IsAnswer (flat_map (answers_to p) ms)
+  pub packets_answered : (p : Sent) (ms : List Member) → SentFits p → AllByRecursion Ready ms → AllByRecursion IsAnswer (flat_map (answers_to p) ms)
   packets_answered p [] k h = tt
   packets_answered p (x ∷ ms) k h = all_joined IsAnswer (answers_to p x) (flat_map (answers_to p) ms) (member_packet laws p x k h.0.fits h.0.handed).sent (packets_answered p ms k h.1)
 
@@ -172,7 +172,7 @@ module _ (laws : AllLaws) (wire : Wire) (D : ℕ → Type 0) (aim : AimLaws) whe
     pub ready : AllByRecursion Ready (map (after_packet p) ms)
     pub pending : Pending mid (number + 1) (ps ++ flat_map (answers_to p) ms)
 
-  one_packet : (m mid : Mesh) (number : ℕ) (text : List ℕ) (p : Sent) (ps : List Sent) (ms : List Member) (packet : Packet) → Here D m ms → AllByRecursion Ready ms → SentFits p → SentAims D p → Pending m number (p ∷ ps)
+  pub one_packet : (m mid : Mesh) (number : ℕ) (text : List ℕ) (p : Sent) (ps : List Sent) (ms : List Member) (packet : Packet) → Here D m ms → AllByRecursion Ready ms → SentFits p → SentAims D p → Pending m number (p ∷ ps)
       → slice_get m.nodes.bag number ≡ Some packet → EachComes (given_to number) (addressees m packet) m text mid → Took mid number p ps ms
   one_packet m mid number text p ps ms packet h ready fit to pending at e =
       let own : slice_get m.nodes.bag number ≡ Some (packet_of p) = first_pending m number p ps pending in
@@ -187,7 +187,7 @@ module _ (laws : AllLaws) (wire : Wire) (D : ℕ → Type 0) (aim : AimLaws) whe
 
   -- ---- the end of the bag
 
-  bag_length : (m : Mesh) (number : ℕ) (ps : List Sent) → Pending m number ps → length m.nodes.bag ≡ number + length (map packet_of ps)
+  pub bag_length : (m : Mesh) (number : ℕ) (ps : List Sent) → Pending m number ps → length m.nodes.bag ≡ number + length (map packet_of ps)
   bag_length m number ps h = ap length h.bag ∙ (length-append h.before (map packet_of ps) ∙ ap (λ n. n + length (map packet_of ps)) (sym h.number_is))
 
   nothing_left : (m : Mesh) (number : ℕ) (packet : Packet) → Pending m number [] → slice_get m.nodes.bag number ≡ Some packet → ⊥
@@ -219,7 +219,7 @@ module _ (laws : AllLaws) (wire : Wire) (D : ℕ → Type 0) (aim : AimLaws) whe
   silent_if x p true h = silent_part x p x.part h
   silent_if x p false h = refl
 
-  silent : (p : Sent) (ms : List Member) → IsAnswer p → flat_map (answers_to p) ms ≡ []
+  pub silent : (p : Sent) (ms : List Member) → IsAnswer p → flat_map (answers_to p) ms ≡ []
   silent p [] h = refl
   silent p (x ∷ ms) h = rw (silent_if x p (is_for x p) h, silent p ms h) refl
 

@@ -1,3 +1,4 @@
 pub mod Settled
 pub mod Laws
 pub mod Worked
+pub mod Carried

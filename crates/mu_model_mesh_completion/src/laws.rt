@@ -1,5 +1,6 @@
 //! Laws on whole updates of a script in which nothing is lost: functions that do nothing, whose contracts are proved.
 
+ghost use Rattle.mu_model_mesh_completion.specs.Carried.{SettleIsCarried};
 ghost use Rattle.mu_model_mesh_completion.specs.Laws.{PushSettles, PushSettlesNoSooner, PullSettles, PushSettleDropsNobody, PullSettleDropsNobody, WorldsOfScripts};
 ghost use Rattle.mu_model_mesh_completion.specs.Worked.{OneNode};
 
@@ -16,13 +17,15 @@ use mu_model_wire::laws::{canonical_is_read, grammar_holds, reads_what_is_spelle
 /// Where nothing is lost, a `settle` of so many turns completes the update of an updater that has had no event: in push seven turns
 /// for each sixteen receivers, and for each block two for each sixteen receivers and one for each sixteen chunks; in pull with one
 /// receiver seven turns, and for each block one and two for each sixteen chunks. In push with full blocks and up to sixteen receivers
-/// in a group not a turn sooner. No receiver is dropped, after however many turns.
+/// in a group not a turn sooner. No receiver is dropped, after however many turns. And the `settle` is carried through where no
+/// flash is worn out on the way.
 pub fn settle_completes()
     ensures push { PushSettles }
     ensures no_sooner { PushSettlesNoSooner }
     ensures pull { PullSettles }
     ensures push_drops_nobody { PushSettleDropsNobody }
     ensures pull_drops_nobody { PullSettleDropsNobody }
+    ensures carried { SettleIsCarried }
 {
     push_completes();
     pull_completes();

@@ -1,3 +1,4 @@
+use Rattle.mu_model_mesh_completion.proofs.Carried.{settle_is_carried}
 use Rattle.mu_model_mesh_completion.proofs.Begins.{push_settles, push_settles_no_sooner, push_drops_nobody, pull_settles, pull_drops_nobody, Images, Aiming}
 use Rattle.mu_model_mesh_completion.proofs.Happens.{Wire}
 use Rattle.mu_model_mesh_completion.proofs.Members.{AllLaws}
@@ -39,4 +40,5 @@ returns c =
       pull = pull_settles all wire own aim c.pull_completes.ensures;
       push_drops_nobody = push_drops_nobody all wire own aim c.nobody_is_dropped.ensures.push;
       pull_drops_nobody = pull_drops_nobody all wire own aim c.nobody_is_dropped.ensures.pull;
+      carried = settle_is_carried all wire own aim;
     }
