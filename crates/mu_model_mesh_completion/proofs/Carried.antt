@@ -87,7 +87,7 @@ module _ (laws : AllLaws) (wire : Wire) (D : ℕ → Type 0) (aim : AimLaws) (st
       let took = one_packet laws wire D aim m c.next number c.text r rs ms (packet_of r) h ready own to pending at c.each in
       let more = answers_carry rs (number + 1) c.next (map (after_packet r) ms) took.here took.ready fit.1
       (subst (Pending laws wire D aim c.next (number + 1)) (ap (λ (xs : List Sent). rs ++ xs) (silent laws wire D aim r ms fit.0) ∙ append-nil rs) took.pending) c.stands in
-      record { text = c.text ++ more.text; last = more.last; all = comes c.text more.text (packet_of r) at c.each more.all; stands = more.stands }
+      record { text = c.text ++ more.text; last = more.last; all = comes {next = more.last} c.text more.text (packet_of r) at c.each more.all; stands = more.stands }
 
   all_carry : (ps rs : List Sent) (number : ℕ) (m : Mesh) (ms : List Member) → Here D m ms → AllByRecursion Ready ms → AllByRecursion SentFits ps → AllByRecursion (SentAims D) ps → AllByRecursion IsAnswer rs
       → Pending laws wire D aim m number (ps ++ rs) → Stands m → AllCarried m number
@@ -99,7 +99,7 @@ module _ (laws : AllLaws) (wire : Wire) (D : ℕ → Type 0) (aim : AimLaws) (st
       let sent : List Sent = flat_map (answers_to p) ms in
       let more = all_carry ps (rs ++ sent) (number + 1) c.next (map (after_packet p) ms) took.here took.ready fit.1 to.1 (all_joined IsAnswer rs sent answer (packets_answered laws wire D aim p ms fit.0 ready))
       (subst (Pending laws wire D aim c.next (number + 1)) (append_assoc ps rs sent) took.pending) c.stands in
-      record { text = c.text ++ more.text; last = more.last; all = comes c.text more.text (packet_of p) at c.each more.all; stands = more.stands }
+      record { text = c.text ++ more.text; last = more.last; all = comes {next = more.last} c.text more.text (packet_of p) at c.each more.all; stands = more.stands }
 
   -- ---- turns
 
@@ -150,6 +150,6 @@ each_there m [] h = tt
 each_there m (b ∷ bs) h = (is_there m b h.0, each_there m bs h.1)
 
 pub settle_is_carried : AllLaws → Wire → Images → Aiming → SettleIsCarried
-settle_is_carried laws wire images aim line m turns world can there unworn =
+settle_is_carried laws wire images aim line m turns world can unworn =
     settle_carries laws wire (NoDistributorAt m) aim.laws (mesh_begun m) unworn m.order turns (mesh_begun m) (members m) (here images aim.begins line m world can)
-    (record { same = refl; there = each_there m m.order there; reached = begins })
+    (record { same = refl; there = each_there m m.order world.there; reached = begins })

@@ -35,12 +35,17 @@ pub record UpdaterThere (m : Mesh) (address : ℕ) (u : UpdaterMember) : Type 0 
   pub no_node : node_at m address ≡ None
   pub member : is_member m address ≡ true
 
+-- a node or an updater stands at each of these addresses
+abbrev pub AllThere : Mesh → List ℕ → Type 0
+AllThere m bs = AllByRecursion (λ a. node_at m a ≡ None → updater_at m a ≡ None → ⊥) bs
+
 pub record Kept (m : Mesh) : Type 0 where
   pub nodes : (address : ℕ) (n : w.Member) → node_at m address ≡ Some n → NodeThere m address n
   pub updaters : (address : ℕ) (u : UpdaterMember) → updater_at m address ≡ Some u → UpdaterThere m address u
   pub once : NoneTwice m.order
   pub bag : BagReads m.nodes.bag
   pub no_distributor : m.distributors ≡ []
+  pub there : AllThere m m.order
 
 -- ---- what stays
 
@@ -55,6 +60,14 @@ member_stays m next sent a s h = ap (λ (bs : List ℕ). list_any (nat_eq a) bs)
 bag_stays : (m next : Mesh) (sent : List Packet) → Kept m → SameOrder m next sent → BagReads sent → BagReads next.nodes.bag
 bag_stays m next sent k s h = subst BagReads (sym s.bag) (all_joined PacketReads m.nodes.bag sent k.bag h)
 
+still_there : (m next : Mesh) (bs : List ℕ) → ((a : ℕ) → node_at next a ≡ None → node_at m a ≡ None) → ((a : ℕ) → updater_at next a ≡ None → updater_at m a ≡ None) → AllThere m bs → AllThere next bs
+still_there m next [] n u h = tt
+still_there m next (b ∷ bs) n u h = ((λ x y. h.0 (n b x) (u b y)), still_there m next bs n u h.1)
+
+goes_by : {X : Type 0} (a b : ℕ) (t : Bool) → nat_eq a b ≡ t → (f g : ℕ → Option X) (new : X) → f a ≡ Some new → ((c : ℕ) → (a ≡ c → ⊥) → f c ≡ g c) → f b ≡ None → g b ≡ None
+goes_by a b true t f g new here there h = absurd (some_none (sym here ∙ (ap f (eqb-true a b t) ∙ h)))
+goes_by a b false t f g new here there h = sym (there b (λ is. true_false (sym (eq-eqb a b is) ∙ t))) ∙ h
+
 -- no member changes
 pub nothing_kept : (m next : Mesh) (sent : List Packet) → Kept m → SameOrder m next sent → BagReads sent → next.nodes.members ≡ m.nodes.members → next.updaters ≡ m.updaters → Kept next
 nothing_kept m next sent k s h nodes updaters =
@@ -66,6 +79,7 @@ nothing_kept m next sent k s h nodes updaters =
       once = subst NoneTwice (sym s.order) k.once;
       bag = bag_stays m next sent k s h;
       no_distributor = s.distributors ∙ k.no_distributor;
+      there = subst (AllThere next) (sym s.order) (still_there m next m.order (λ a x. sym (same a) ∙ x) (λ a x. sym (same_up a) ∙ x) k.there);
     }
 
 -- ---- a node changes
@@ -103,6 +117,7 @@ node_kept m next sent a old new k s h at fit nodes updaters =
       once = subst NoneTwice (sym s.order) k.once;
       bag = bag_stays m next sent k s h;
       no_distributor = s.distributors ∙ k.no_distributor;
+      there = subst (AllThere next) (sym s.order) (still_there m next m.order (λ b x. goes_by a b (nat_eq a b) refl (node_at next) (node_at m) new here there x) (λ b x. sym (same_up b) ∙ x) k.there);
     }
 
 -- ---- an updater changes
@@ -136,6 +151,7 @@ updater_kept m next sent a old new k s h at fit nodes updaters =
       once = subst NoneTwice (sym s.order) k.once;
       bag = bag_stays m next sent k s h;
       no_distributor = s.distributors ∙ k.no_distributor;
+      there = subst (AllThere next) (sym s.order) (still_there m next m.order (λ b x. sym (same b) ∙ x) (λ b x. goes_by a b (nat_eq a b) refl (updater_at next) (updater_at m) new here there x) k.there);
     }
 
 -- ---- one member more
@@ -202,6 +218,23 @@ more_none : {X : Type 0} (a b : ℕ) (v : X) (es : List (ℕ × X)) → lookup (
 more_none a b v [] h ne = rw (ne_eqb b a ne) refl
 more_none a b v (e ∷ es) h ne = none_by b e.1 es (es ++ (a, v) ∷ []) (nat_eq b e.0) h (λ k. more_none a b v es k ne)
 
+fewer_by : {X : Type 0} (b : ℕ) (value : X) (es more : List (ℕ × X)) (t : Bool) → cond t (Some value) (lookup (nat_eq b) more) ≡ None → (lookup (nat_eq b) more ≡ None → lookup (nat_eq b) es ≡ None)
+    → cond t (Some value) (lookup (nat_eq b) es) ≡ None
+fewer_by b value es more true h k = h
+fewer_by b value es more false h k = k h
+
+fewer_none : {X : Type 0} (a b : ℕ) (v : X) (es : List (ℕ × X)) → lookup (nat_eq b) (es ++ (a, v) ∷ []) ≡ None → lookup (nat_eq b) es ≡ None
+fewer_none a b v [] h = refl
+fewer_none a b v (e ∷ es) h = fewer_by b e.1 es (es ++ (a, v) ∷ []) (nat_eq b e.0) h (fewer_none a b v es)
+
+last_there_by : {X : Type 0} (v : X) (t : Bool) (rest : Option X) → cond t (Some v) rest ≡ None → (rest ≡ None → ⊥) → ⊥
+last_there_by v true rest h k = some_none h
+last_there_by v false rest h k = k h
+
+last_there : {X : Type 0} (a : ℕ) (v : X) (es : List (ℕ × X)) → lookup (nat_eq a) (es ++ (a, v) ∷ []) ≡ None → ⊥
+last_there a v [] h = some_none (sym (ap (λ t. cond t (Some v) None) (eq-eqb a a refl)) ∙ h)
+last_there a v (e ∷ es) h = last_there_by e.1 (nat_eq a e.0) (lookup (nat_eq a) (es ++ (a, v) ∷ [])) h (last_there a v es)
+
 member_more : (m next : Mesh) (a b : ℕ) → OneMore m next a → is_member m b ≡ true → is_member next b ≡ true
 member_more m next a b o h = ap (λ (bs : List ℕ). list_any (nat_eq b) bs) o.order ∙ any_more a b m.order h
 
@@ -235,6 +268,10 @@ node_added m next a new k o fit nodes updaters =
       once = subst NoneTwice (sym o.order) (once_more a m.order k.once o.free);
       bag = subst BagReads (sym o.bag) k.bag;
       no_distributor = o.distributors ∙ k.no_distributor;
+      there =
+          subst (AllThere next) (sym o.order)
+          (all_joined _ m.order (a ∷ []) (still_there m next m.order (λ b x. fewer_none a b new m.nodes.members (sym (more b) ∙ x)) (λ b x. sym (same_up b) ∙ x) k.there)
+          ((λ x y. last_there a new m.nodes.members (sym (more a) ∙ x)), tt));
     }
 
 pub updater_added : (m next : Mesh) (a : ℕ) (new : UpdaterMember) → Kept m → OneMore m next a → UpdaterKept a new → next.nodes.members ≡ m.nodes.members → next.updaters ≡ m.updaters ++ (a, new) ∷ [] → Kept next
@@ -255,4 +292,8 @@ updater_added m next a new k o fit nodes updaters =
       once = subst NoneTwice (sym o.order) (once_more a m.order k.once o.free);
       bag = subst BagReads (sym o.bag) k.bag;
       no_distributor = o.distributors ∙ k.no_distributor;
+      there =
+          subst (AllThere next) (sym o.order)
+          (all_joined _ m.order (a ∷ []) (still_there m next m.order (λ b x. sym (same b) ∙ x) (λ b x. fewer_none a b new m.updaters (sym (more b) ∙ x)) k.there)
+          ((λ x y. last_there a new m.updaters (sym (more a) ∙ y)), tt));
     }

@@ -8,7 +8,7 @@ use Rattle.mu_model_script.specs.Lines.{script_event}
 use Rattle.mu_model_script.specs.Ranges.{IsInRange}
 use Rattle.mu_model_script.specs.declared.LineFault.{LineFault}
 use Rattle.mu_model_world.specs.Judged.{Objection, judged_event}
-use Rattle.mu_model_mesh.specs.Mesh.{Mesh, new_mesh, addressees}
+use Rattle.mu_model_mesh.specs.Mesh.{Mesh, new_mesh, node_at, updater_at, distributor_at, addressees}
 use Rattle.mu_model_mesh.specs.MeshOutcomes.{MeshOutcome, mesh_begun, mesh_outcomes}
 use Rattle.mu_model_mesh.specs.MeshJudged.{mesh_objection, mesh_judged_by}
 use Rattle.mu_model_mesh.specs.MeshRun.{MeshMoves, IsDone, MeshRun}
@@ -16,7 +16,7 @@ use Rattle.mu_model_mesh.specs.Settle.{turn_comes, EachComes, given_to, AllComes
 use Rattle.mu_model_mesh_completion.proofs.Apart.{none_some}
 use Rattle.mu_model_mesh_completion.specs.Settled.{IsWorld}
 use Rattle.mu_model_mesh_completion.specs.Laws.{NoDistributor, WorldsOfScripts}
-use Rattle.mu_model_mesh_completion.proofs.Kept.{Kept, nothing_kept}
+use Rattle.mu_model_mesh_completion.proofs.Kept.{Kept, AllThere, nothing_kept}
 use Rattle.mu_model_mesh_completion.proofs.KeptEvents.{AllKept, given_kept, time_kept}
 use Rattle.mu_model_mesh_completion.proofs.KeptLines.{LineLaws, IsNoDistributor, begun_kept, nobody_at, line_kept}
 
@@ -30,16 +30,21 @@ of_all P (v ∷ xs) x all (suc k, within, is) = of_all P xs x all.1 (k, omega (a
 one_of : (outs : List MeshOutcome) (next : Mesh) (text : List ℕ) → AllKept outs → Contains outs (record { mesh = next; text = text }) → Kept next
 one_of outs next text all within = of_all (λ (o : MeshOutcome). Kept o.mesh) outs (record { mesh = next; text = text }) all within
 
+each_there : (m : Mesh) (bs : List ℕ) → AllThere m bs → AllByRecursion (λ a. node_at m a ≡ None → updater_at m a ≡ None → distributor_at m a ≡ None → ⊥) bs
+each_there m [] h = tt
+each_there m (b ∷ bs) h = ((λ n u d. h.0 n u), each_there m bs h.1)
+
 pub world_of : (m : Mesh) → Kept m → IsWorld m
 world_of m k = record {
   nodes = λ a n e. (k.nodes a n e).kept;
   updaters = λ a u e. let own = k.updaters a u e in (own.kept.from, own.no_node);
   distributors = λ a d e. absurd (none_some (sym (nobody_at m a k) ∙ e));
   once = k.once;
+  there = each_there m m.order k.there;
 }
 
 pub new_kept : Kept new_mesh
-new_kept = record { nodes = λ a n e. cc; updaters = λ a u e. cc; once = tt; bag = tt; no_distributor = refl }
+new_kept = record { nodes = λ a n e. cc; updaters = λ a u e. cc; once = tt; bag = tt; no_distributor = refl; there = tt }
 
 -- ---- turns
 

@@ -1,10 +1,9 @@
 -- When a `settle` can be carried through.
-use Rattle.std.specs.Prelude.{ℕ, ◌≡◌, ◌+◌, List, Contains, Some, None}
-use Rattle.std.specs.List.{AllByRecursion}
+use Rattle.std.specs.Prelude.{ℕ, ◌≡◌, ◌+◌, List, Contains, Some}
 use Rattle.mu_model_node.specs.Events.{last_count}
 use Rattle.mu_model_world.specs.World.{Member}
 use Rattle.mu_model_updater.specs.Updater.{UpdaterLine}
-use Rattle.mu_model_mesh.specs.Mesh.{DistributorMember, Mesh, node_at, updater_at, distributor_at}
+use Rattle.mu_model_mesh.specs.Mesh.{DistributorMember, Mesh, node_at, distributor_at}
 use Rattle.mu_model_mesh.specs.MeshOutcomes.{mesh_begun, given}
 use Rattle.mu_model_mesh.specs.Settle.{turn_comes, Settles}
 use Rattle.mu_model_mesh_completion.specs.Settled.{IsWorld, CanSettle}
@@ -21,10 +20,6 @@ pub record IsUnworn (m : Mesh) : Type 0 where
   pub nodes : (address : ℕ) (n : Member) → node_at m address ≡ Some n → n.state.durable.count ≡ last_count → ⊥
   pub distributors : (address : ℕ) (d : DistributorMember) → distributor_at m address ≡ Some d → d.state.durable.count ≡ last_count → ⊥
 
--- each address of the order is of a member
-abbrev pub EachIsThere : Mesh → Type 0
-EachIsThere m = AllByRecursion (λ address. node_at m address ≡ None → updater_at m address ≡ None → distributor_at m address ≡ None → ⊥) m.order
-
 pub record IsCarried (turns : ℕ) (m : Mesh) : Type 0 where
   pub text : List ℕ
   pub next : Mesh
@@ -33,5 +28,5 @@ pub record IsCarried (turns : ℕ) (m : Mesh) : Type 0 where
 -- then a `settle` is carried through, where no flash is worn out on the way
 abbrev pub SettleIsCarried : Type 0
 SettleIsCarried =
-    (line : UpdaterLine) (m : Mesh) (turns : ℕ) → IsWorld m → CanSettle line m → EachIsThere m
+    (line : UpdaterLine) (m : Mesh) (turns : ℕ) → IsWorld m → CanSettle line m
     → ((mid : Mesh) → Passes (mesh_begun m) mid → IsUnworn mid) → IsCarried turns (mesh_begun m)

@@ -42,12 +42,18 @@ pub record IsNode (address : ℕ) (n : Member) : Type 0 where
   pub unicast : address < 0x8000
   pub some_group : (n.group ≡ 0) ⊎ (0xC000 ≤ n.group)
 
--- nodes are sound, an updater sends from its own address, what stands at an address is of one kind, and no address stands twice
+-- each address of the order is of a member
+abbrev pub EachIsThere : Mesh → Type 0
+EachIsThere m = AllByRecursion (λ address. node_at m address ≡ None → updater_at m address ≡ None → distributor_at m address ≡ None → ⊥) m.order
+
+-- nodes are sound, an updater sends from its own address, what stands at an address is of one kind, no address stands twice, and each
+-- has a member
 pub record IsWorld (m : Mesh) : Type 0 where
   pub nodes : (address : ℕ) (n : Member) → node_at m address ≡ Some n → IsNode address n
   pub updaters : (address : ℕ) (u : UpdaterMember) → updater_at m address ≡ Some u → (u.updater.client.sending.from ≡ address) × (node_at m address ≡ None)
   pub distributors : (address : ℕ) (d : DistributorMember) → distributor_at m address ≡ Some d → (address < 0x8000) × (node_at m address ≡ None)
   pub once : NoneTwice m.order
+  pub there : EachIsThere m
 
 -- ---- the beginning
 

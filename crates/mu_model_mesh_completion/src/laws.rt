@@ -46,8 +46,8 @@ pub fn settle_completes()
 }
 
 /// Each world of each run of a script without distributors, whatever its lines and the outcomes of its tears are, is one that these
-/// laws ask for: its nodes are sound, an updater sends from its own address, and no address stands twice. A worked row: a script of
-/// one updater and one node whose bank is one page, of which a `settle` of ten turns is asked for.
+/// laws ask for: its nodes are sound, an updater sends from its own address, no address stands twice, and each has a member. A worked
+/// row: a script of one updater and one node whose bank is one page, of which a `settle` of ten turns is asked for.
 pub fn worlds_of_scripts()
     ensures worlds { WorldsOfScripts }
     ensures one_node { OneNode }
