@@ -12,7 +12,7 @@ use Rattle.mu_model_mesh_completion.proofs.Apart.{true_false, some_none}
 use Rattle.mu_model_mesh_completion.specs.Settled as settled
 use Rattle.mu_model_mesh_completion.proofs.Asks.{ClientFits}
 use Rattle.mu_model_mesh_completion.proofs.ReadOctets.{Reads}
-use Rattle.mu_model_mesh_completion.proofs.Worlds.{set_here, set_there}
+use Rattle.mu_model_mesh_completion.proofs.Worlds.{set_here, set_there, goes_by}
 use Rattle.mu_model_mesh_completion.proofs.Each.{all_joined}
 
 -- what a node reads in a packet is in the ranges of the grammar
@@ -63,10 +63,6 @@ bag_stays m next sent k s h = subst BagReads (sym s.bag) (all_joined PacketReads
 still_there : (m next : Mesh) (bs : List ℕ) → ((a : ℕ) → node_at next a ≡ None → node_at m a ≡ None) → ((a : ℕ) → updater_at next a ≡ None → updater_at m a ≡ None) → AllThere m bs → AllThere next bs
 still_there m next [] n u h = tt
 still_there m next (b ∷ bs) n u h = ((λ x y. h.0 (n b x) (u b y)), still_there m next bs n u h.1)
-
-goes_by : {X : Type 0} (a b : ℕ) (t : Bool) → nat_eq a b ≡ t → (f g : ℕ → Option X) (new : X) → f a ≡ Some new → ((c : ℕ) → (a ≡ c → ⊥) → f c ≡ g c) → f b ≡ None → g b ≡ None
-goes_by a b true t f g new here there h = absurd (some_none (sym here ∙ (ap f (eqb-true a b t) ∙ h)))
-goes_by a b false t f g new here there h = sym (there b (λ is. true_false (sym (eq-eqb a b is) ∙ t))) ∙ h
 
 -- no member changes
 pub nothing_kept : (m next : Mesh) (sent : List Packet) → Kept m → SameOrder m next sent → BagReads sent → next.nodes.members ≡ m.nodes.members → next.updaters ≡ m.updaters → Kept next

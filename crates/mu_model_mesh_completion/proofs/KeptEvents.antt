@@ -155,6 +155,11 @@ left_fits laws config s event now operations h k =
     one_of (s.durable ∷ node_work config s event now) operations s.durable
     (old, old_or_new s.durable (node_step config s event now).next.durable (node_work config s event now) (laws.work config s event now) old (of_state (node_step config s event now).next k)) old
 
+-- ---- no distributor
+
+pub nobody_at : (m : Mesh) (a : ℕ) → Kept m → distributor_at m a ≡ None
+nobody_at m a k = ap (λ (ds : List (ℕ × DistributorMember)). lookup (nat_eq a) ds) k.no_distributor
+
 -- ---- outcomes
 
 abbrev pub AllKept : List MeshOutcome → Type 0
@@ -247,9 +252,6 @@ module _ (laws : RunLaws) where
       )
 
   -- ---- packets and time
-
-  nobody_at : (m : Mesh) (a : ℕ) → Kept m → distributor_at m a ≡ None
-  nobody_at m a k = ap (λ (ds : List (ℕ × DistributorMember)). lookup (nat_eq a) ds) k.no_distributor
 
   by_packet : (m : Mesh) (number a : ℕ) (packet : Packet) (n : Option w.Member) (u : Option UpdaterMember) (d : Option DistributorMember) → Kept m → node_at m a ≡ n → updater_at m a ≡ u → d ≡ None → PacketReads packet
       → AllKept (given_by m number a packet n u d)

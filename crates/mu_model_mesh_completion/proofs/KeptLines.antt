@@ -1,8 +1,7 @@
 -- Every line of a script without distributors keeps what holds of its worlds.
-use Rattle.std.proofs.Common.{◌≡◌, ◌≢◌, ◌<◌, ◌≤◌, ◌*◌, ℕ, zero, suc, nat_eq, nat_lt, nat_le, Bool, true, false, List, [], ◌∷◌, length, refl, sym, ap, subst, ◌∙◌, cond, arith, append-nil, Option, Some, None, ◌⊎◌, inl, inr}
+use Rattle.std.proofs.Common.{◌≡◌, ◌≢◌, ◌<◌, ◌≤◌, ◌*◌, ℕ, zero, suc, nat_eq, nat_lt, nat_le, Bool, true, false, List, [], ◌∷◌, length, refl, sym, subst, ◌∙◌, cond, arith, append-nil, Option, Some, None, ◌⊎◌, inl, inr}
 use Rattle.std.specs.Prelude.{slice_get, ◌||◌, ◌&&◌, not}
 use Rattle.std.specs.List.{AllByRecursion, list_any}
-use Rattle.std.specs.Map.{lookup}
 use Rattle.std.proofs.lemmas.Bool.{ltb-false, eq-eqb}
 use Rattle.mu_model_image.specs.Laws.{MadeImageHasItsSize}
 use Rattle.mu_model_image.specs.Meta.{Image, image_of}
@@ -29,7 +28,7 @@ use Rattle.mu_model_mesh_completion.specs.Settled.{IsLine}
 use Rattle.mu_model_mesh_completion.proofs.Begins.{Images, begins_fit}
 use Rattle.mu_model_mesh_completion.proofs.ReadOctets.{octets_read}
 use Rattle.mu_model_mesh_completion.proofs.Kept.{Kept, nothing_kept, node_added, updater_added}
-use Rattle.mu_model_mesh_completion.proofs.KeptEvents.{RunLaws, AllKept, given_kept, time_kept, cut_kept, tear_kept}
+use Rattle.mu_model_mesh_completion.proofs.KeptEvents.{RunLaws, AllKept, nobody_at, given_kept, time_kept, cut_kept, tear_kept}
 
 pub record LineLaws : Type 0 where
   pub run : RunLaws
@@ -84,9 +83,6 @@ rows_kept m None None k = tt
 shown_kept : (m : Mesh) (number : ℕ) (packet : Option Packet) → Kept m → AllKept (packet_by m number packet)
 shown_kept m number (Some packet) k = (k, tt)
 shown_kept m number None k = tt
-
-pub nobody_at : (m : Mesh) (a : ℕ) → Kept m → distributor_at m a ≡ None
-nobody_at m a k = ap (λ (ds : List (ℕ × DistributorMember)). lookup (nat_eq a) ds) k.no_distributor
 
 stocked_kept : (m : Mesh) (a version : ℕ) (content : Content) (d : Option DistributorMember) → d ≡ None → AllKept (stocked_by m a version content d)
 stocked_kept m a version content None e = tt

@@ -17,8 +17,8 @@ use Rattle.mu_model_mesh_completion.proofs.Apart.{none_some}
 use Rattle.mu_model_mesh_completion.specs.Settled.{IsWorld}
 use Rattle.mu_model_mesh_completion.specs.Laws.{NoDistributor, WorldsOfScripts}
 use Rattle.mu_model_mesh_completion.proofs.Kept.{Kept, AllThere, nothing_kept}
-use Rattle.mu_model_mesh_completion.proofs.KeptEvents.{AllKept, given_kept, time_kept}
-use Rattle.mu_model_mesh_completion.proofs.KeptLines.{LineLaws, IsNoDistributor, begun_kept, nobody_at, line_kept}
+use Rattle.mu_model_mesh_completion.proofs.KeptEvents.{AllKept, nobody_at, given_kept, time_kept}
+use Rattle.mu_model_mesh_completion.proofs.KeptLines.{LineLaws, IsNoDistributor, begun_kept, line_kept}
 
 of_all : {X : Type 0} (P : X → Type 0) (xs : List X) (x : X) → AllByRecursion P xs → Contains xs x → P x
 of_all P [] x all p =

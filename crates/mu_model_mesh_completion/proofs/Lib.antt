@@ -22,3 +22,4 @@ pub mod Resting
 pub mod Aims
 pub mod Exists
 pub mod Carried
+pub mod Scripts

@@ -197,7 +197,7 @@ rest_by m next address b new k true t s rest here there h =
 rest_by m next address b new k false t s rest here there h =
     s.at_rest b k (sym (there b (λ is. true_false (sym (eq-eqb address b is) ∙ t))) ∙ h)
 
-goes_by : (a b : ℕ) (t : Bool) → nat_eq a b ≡ t → (f g : ℕ → Option DistributorMember) (new : DistributorMember) → f a ≡ Some new → ((c : ℕ) → (a ≡ c → ⊥) → f c ≡ g c) → f b ≡ None → g b ≡ None
+pub goes_by : {X : Type 0} (a b : ℕ) (t : Bool) → nat_eq a b ≡ t → (f g : ℕ → Option X) (new : X) → f a ≡ Some new → ((c : ℕ) → (a ≡ c → ⊥) → f c ≡ g c) → f b ≡ None → g b ≡ None
 goes_by a b true t f g new here there h = absurd (some_none (sym here ∙ (ap f (eqb-true a b t) ∙ h)))
 goes_by a b false t f g new here there h = sym (there b (λ is. true_false (sym (eq-eqb a b is) ∙ t))) ∙ h
 

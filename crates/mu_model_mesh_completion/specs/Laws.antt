@@ -4,11 +4,11 @@ use Rattle.std.specs.List.{AllByRecursion}
 use Rattle.mu_model_client.specs.declared.Sending.{Sending}
 use Rattle.mu_model_completion.specs.Completion.{push_turns, pull_turns, AllFull}
 use Rattle.mu_model_updater.specs.Updater.{UpdaterLine, plan_of}
-use Rattle.mu_model_script.specs.Event.{Distributor}
+use Rattle.mu_model_script.specs.Event.{Distributor, Settle}
 use Rattle.mu_model_script.specs.Lines.{script_event}
 use Rattle.mu_model_mesh.specs.Mesh.{Mesh, new_mesh}
 use Rattle.mu_model_mesh.specs.MeshOutcomes.{mesh_begun}
-use Rattle.mu_model_mesh.specs.MeshRun.{MeshRun}
+use Rattle.mu_model_mesh.specs.MeshRun.{MeshStep, MeshRun}
 use Rattle.mu_model_mesh.specs.Settle.{Settles}
 use Rattle.mu_model_mesh_completion.specs.Settled.{IsWorld, CanSettle, DropsNobody, IsCompleted, IsApplying}
 
@@ -58,3 +58,25 @@ NoDistributor lines = AllByRecursion (λ line. (address pages : ℕ) → script_
 -- so each world of its runs, whatever lines come and whatever outcomes its tears have, is as these laws ask
 abbrev pub WorldsOfScripts : Type 0
 WorldsOfScripts = (lines : List (List ℕ)) (text : List ℕ) (m : Mesh) → MeshRun new_mesh lines text m → NoDistributor lines → IsWorld m
+
+-- a line of such a script that says `settle` and is done with so many turns or more completes the update
+pub record SettlesIn (line : UpdaterLine) (m : Mesh) (least : ℕ) (next : Mesh) : Type 0 where
+  pub before : List (List ℕ)
+  pub shown : List ℕ
+  pub run : MeshRun new_mesh before shown m
+  pub no_distributor : NoDistributor before
+  pub can : CanSettle line m
+  pub settle : List ℕ
+  pub turns : ℕ
+  pub says : script_event settle ≡ Ok (Some (Settle turns))
+  pub enough : least ≤ turns
+  pub text : List ℕ
+  pub done : MeshStep m settle text next
+
+abbrev pub PushScriptsComplete : Type 0
+PushScriptsComplete =
+    (line : UpdaterLine) (m next : Mesh) → line.mode ≡ 1 → SettlesIn line m (push_turns (sending_of line) (length line.receivers)) next → IsCompleted line next
+
+abbrev pub PullScriptsComplete : Type 0
+PullScriptsComplete =
+    (line : UpdaterLine) (to : ℕ) (m next : Mesh) → line.mode ≡ 2 → line.receivers ≡ to ∷ [] → SettlesIn line m (pull_turns (sending_of line)) next → IsCompleted line next

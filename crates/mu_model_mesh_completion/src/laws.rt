@@ -1,7 +1,7 @@
 //! Laws on whole updates of a script in which nothing is lost: functions that do nothing, whose contracts are proved.
 
 ghost use Rattle.mu_model_mesh_completion.specs.Carried.{SettleIsCarried};
-ghost use Rattle.mu_model_mesh_completion.specs.Laws.{PushSettles, PushSettlesNoSooner, PullSettles, PushSettleDropsNobody, PullSettleDropsNobody, WorldsOfScripts};
+ghost use Rattle.mu_model_mesh_completion.specs.Laws.{PushSettles, PushSettlesNoSooner, PullSettles, PushSettleDropsNobody, PullSettleDropsNobody, PushScriptsComplete, PullScriptsComplete, WorldsOfScripts};
 ghost use Rattle.mu_model_mesh_completion.specs.Worked.{OneNode};
 
 use mu_model_client_laws::laws::{
@@ -65,4 +65,14 @@ pub fn worlds_of_scripts()
     canonical_is_read();
     reads_what_is_spelled();
     script_event_is_in_range();
+}
+
+/// So in a script without distributors: a line `settle` of so many turns or more completes the update of an updater that has had no
+/// event, where its receivers take it, every other updater has ended and no tear is to come.
+pub fn scripts_complete()
+    ensures push { PushScriptsComplete }
+    ensures pull { PullScriptsComplete }
+{
+    settle_completes();
+    worlds_of_scripts();
 }
