@@ -141,11 +141,11 @@ dist_time m address d out s no_node no_updater at h =
     let rest = s.at_rest address d at in
     let later : DistributorMember = dist_later (d.moment + 100) d in
     let step : DistStep = dist_step address later.state TimeComes later.moment in
-    let rests = dist_time_rests address d.state later.moment (record { turns = rest.rests; cut = rest.no_upload }) in
+    let rests = dist_time_rests address d.state later.moment (record { turns = rest.rests; pushed = rest.no_pull }) in
     let same : dist_ran m address later [] step ≡ out = dist_only m address later TimeComes [] out rest.no_tear h in
     does_rest m out.mesh address timed (nobody_else m address no_node no_updater)
     (subst (λ (x : MeshOutcome). DistRan m x.mesh) same
-    (dist_went m address d later [] step s at rests.quiet (record { rests = rests.next.turns; no_upload = rests.next.cut; no_tear = rest.no_tear })))
+    (dist_went m address d later [] step s at rests.quiet (record { rests = rests.next.turns; no_pull = rests.next.pushed; no_tear = rest.no_tear })))
 
 time_by : (m : Mesh) (address : ℕ) (n : Option w.Member) (u : Option UpdaterMember) (d : Option DistributorMember) (out : MeshOutcome) → Stable m → node_at m address ≡ n → updater_at m address ≡ u
     → distributor_at m address ≡ d → AllByRecursion MemberFits (members_by address n u) → Contains (timed_by m address (moment_by n u d + 100) n u d) out → Does m out.mesh address timed
@@ -296,11 +296,11 @@ dist_packet : Wire → (m : Mesh) (address : ℕ) (d : DistributorMember) (p : S
 dist_packet wire m address d p first out s no_node no_updater at fit aimed h =
     let rest = s.at_rest address d at in
     let step : DistStep = dist_step address d.state (PacketComes (packet_of p)) d.moment in
-    let rests = dist_body wire m address d p p.body fit aimed at (record { turns = rest.rests; cut = rest.no_upload }) in
+    let rests = dist_body wire m address d p p.body fit aimed at (record { turns = rest.rests; pushed = rest.no_pull }) in
     let same : dist_ran m address d first step ≡ out = dist_only m address d (PacketComes (packet_of p)) first out rest.no_tear h in
     does_rest m out.mesh address (given p) (nobody_else m address no_node no_updater)
     (subst (λ (x : MeshOutcome). DistRan m x.mesh) same
-    (dist_went m address d d first step s at rests.quiet (record { rests = rests.next.turns; no_upload = rests.next.cut; no_tear = rest.no_tear })))
+    (dist_went m address d d first step s at rests.quiet (record { rests = rests.next.turns; no_pull = rests.next.pushed; no_tear = rest.no_tear })))
 
 packet_by : Wire → (m : Mesh) (number address : ℕ) (p : Sent) (n : Option w.Member) (u : Option UpdaterMember) (d : Option DistributorMember) (out : MeshOutcome) → Stable m
     → node_at m address ≡ n → updater_at m address ≡ u → distributor_at m address ≡ d → SentFits p → Aimed m p → AllByRecursion (Takes p) (members_by address n u)
