@@ -1,0 +1,23 @@
+-- Completion in scripts.
+use Rattle.std.proofs.Common.{ℕ, length, subst, Option, Some, Result, Ok}
+use Rattle.mu_model_script.specs.Event.{Event, Settle}
+use Rattle.mu_model_script.specs.declared.LineFault.{LineFault}
+use Rattle.mu_model_updater.specs.Updater.{UpdaterLine}
+use Rattle.mu_model_mesh.specs.Mesh.{Mesh}
+use Rattle.mu_model_mesh.specs.MeshJudged.{mesh_judged_by}
+use Rattle.mu_model_mesh.specs.MeshRun.{IsDone}
+use Rattle.mu_model_completion.specs.Completion.{push_turns, pull_turns}
+use Rattle.mu_model_mesh_completion.specs.Laws.{SettlesTo, sending_of, PushSettles, PullSettles, WorldsOfScripts, SettlesIn, PushScriptsComplete, PullScriptsComplete}
+
+settled : (line : UpdaterLine) (m next : Mesh) (least : ℕ) (s : SettlesIn line m least next) → SettlesTo s.turns m s.text next
+settled line m next least s =
+    let done : IsDone m (mesh_judged_by m s.settle (Ok (Some (Settle s.turns)))) s.text next = subst (λ (r : Result (Option Event) LineFault). IsDone m (mesh_judged_by m s.settle r) s.text next) s.says s.done.done in
+    done.1
+
+pub push_scripts_complete : WorldsOfScripts → PushSettles → PushScriptsComplete
+push_scripts_complete worlds law line m next mode s =
+    law line m next s.text s.turns (worlds s.before s.shown m s.run s.no_distributor) s.can mode s.enough (settled line m next (push_turns (sending_of line) (length line.receivers)) s)
+
+pub pull_scripts_complete : WorldsOfScripts → PullSettles → PullScriptsComplete
+pull_scripts_complete worlds law line to m next mode one s =
+    law line to m next s.text s.turns (worlds s.before s.shown m s.run s.no_distributor) s.can mode one s.enough (settled line m next (pull_turns (sending_of line)) s)

@@ -1,0 +1,4 @@
+pub mod Settled
+pub mod Laws
+pub mod Worked
+pub mod Carried
