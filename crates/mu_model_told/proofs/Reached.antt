@@ -35,9 +35,10 @@ ids_safe : (d : NodeDurable) (log : List LogEntry) (images : List Image) (base l
 ids_safe d log [] base zero h = tt
 ids_safe d log [] base (suc limit) h = tt
 ids_safe d log (x ∷ images) base zero h = tt
-ids_safe d log (x ∷ images) base (suc limit) h =
-    ((x, refl, subst (λ (n : ℕ). ImageIsSafe d.images (found d.job ++ log) n x) (omega arith) (h 0 x refl)),
-    ids_safe d log images (base + 1) limit (λ i image is. subst (λ (n : ℕ). ImageIsSafe d.images (found d.job ++ log) n image) (omega arith) (h (suc i) image is)))
+ids_safe d log (x ∷ images) base (suc limit) h = (
+  (x, refl, subst (λ (n : ℕ). ImageIsSafe d.images (found d.job ++ log) n x) (omega arith) (h 0 x refl)),
+  ids_safe d log images (base + 1) limit (λ i image is. subst (λ (n : ℕ). ImageIsSafe d.images (found d.job ++ log) n image) (omega arith) (h (suc i) image is)),
+)
 
 ids_from : (d : NodeDurable) (log : List LogEntry) (images : List Image) (base first limit : ℕ) → ((i : ℕ) (image : Image) → slice_get images i ≡ Some image → ImageIsSafe d.images (found d.job ++ log) (base + i) image) → IdsAreSafe d log (base + first) (take limit (drop first (ids_of images)))
 ids_from d log images base zero limit h = subst (λ (n : ℕ). IdsAreSafe d log n (take limit (ids_of images))) (omega arith) (ids_safe d log images base limit h)
