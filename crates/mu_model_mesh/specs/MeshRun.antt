@@ -1,6 +1,8 @@
 -- Whole runs of scripts with updaters and distributors.
-use Rattle.std.specs.Prelude.{ℕ, ◌≡◌, ◌⊎◌, false, List, [], Contains}
+use Rattle.std.specs.Prelude.{ℕ, ◌≡◌, ◌⊎◌, false, List, [], Contains, Option, Some, Result, Ok}
 use Rattle.mu_model_script.specs.Event.{Event, Settle}
+use Rattle.mu_model_script.specs.declared.LineFault.{LineFault}
+use Rattle.mu_model_script.specs.Lines.{script_event}
 use Rattle.mu_model_script.specs.Runs as runs
 use Rattle.mu_model_world.specs.Judged.{Judged, Silent, Refused, Sound}
 use Rattle.mu_model_mesh.specs.Mesh.{Mesh, new_mesh}
@@ -23,9 +25,15 @@ IsDone m (Sound event) text next = (is_past m event ≡ false) × MeshMoves m ev
 pub record MeshStep (m : Mesh) (line text : List ℕ) (next : Mesh) : Type 0 where
   pub done : IsDone m (mesh_judged m line) text next
 
+-- what a line says passes no limit: a limit comes before what stands against the line
+abbrev pub PassesNone : Mesh → Result (Option Event) LineFault → Type 0
+PassesNone m (Ok (Some event)) = is_past m event ≡ false
+PassesNone m _ = Unit {0}
+
 -- it is refused at this place, with this word for why
-abbrev pub MeshBars : Mesh → List ℕ → ℕ → List ℕ → Type 0
-MeshBars m line place word = mesh_judged m line ≡ Refused place word
+pub record MeshBars (m : Mesh) (line : List ℕ) (place : ℕ) (word : List ℕ) : Type 0 where
+  pub within : PassesNone m (script_event line)
+  pub judged : mesh_judged m line ≡ Refused place word
 
 -- all these lines, one after the other, and all that they print
 abbrev pub MeshRun : Mesh → List (List ℕ) → List ℕ → Mesh → Type 0
