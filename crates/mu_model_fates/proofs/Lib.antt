@@ -7,3 +7,4 @@ pub mod Versions
 pub mod Fates
 pub mod Offers
 pub mod Nexts
+pub mod Moments

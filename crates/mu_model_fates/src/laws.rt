@@ -1,6 +1,7 @@
 //! Laws of the definitions: functions that do nothing, whose contracts are proved.
 
 ghost use Rattle.mu_model_fates.specs.Laws.{AskedBefore, JobGoesOn, JobIsLogged, ReachedWasTaken, ShownSinceTaken, TookWasOffered, VerifiedIsHeld, VersionsRise};
+ghost use Rattle.mu_model_fates.specs.Moments.{MomentsAreTheGreatest, RequestsKeepMoments, TimeKeepsMoments};
 
 /// Of each job the log has, in order, that it was taken, verified and asked for.
 pub fn jobs_are_logged()
@@ -40,3 +41,10 @@ pub fn jobs_go_on()
 {
     mu_model_node::laws::flash_work();
 }
+
+/// The moment of a node is the greatest that it was handed.
+pub fn moments_are_the_greatest()
+    ensures requests { RequestsKeepMoments }
+    ensures time { TimeKeepsMoments }
+    ensures steps { MomentsAreTheGreatest }
+{}

@@ -1,5 +1,5 @@
 -- The few ways in which a world changes.
-use Rattle.std.proofs.Common.{◌≡◌, ◌⊎◌, ℕ, ◌≤◌, ◌<◌, ◌*◌, ◌^◌, ◌+◌, List, [], ◌∷◌, ◌++◌, map, Option, Some, None, true, false, nat_eq, Contains}
+use Rattle.std.proofs.Common.{◌≡◌, ◌⊎◌, ℕ, ◌≤◌, ◌<◌, ◌*◌, ◌^◌, ◌+◌, List, [], ◌∷◌, ◌++◌, map, Option, Some, None, true, false, nat_eq}
 use Rattle.std.specs.List.{AllByRecursion}
 use Rattle.std.specs.Map.{set_value}
 use Rattle.mu_model_image.specs.Meta.{Image, IsMeta}
@@ -9,7 +9,7 @@ use Rattle.mu_model_node.specs.Events.{NodeEvent}
 use Rattle.mu_model_node.specs.Log.{logged}
 use Rattle.mu_model_node.specs.NodeMessages.{OfUpdate, request_at}
 use Rattle.mu_model_node.specs.NodeState.{NodeDurable}
-use Rattle.mu_model_node.specs.Safe.{Happening, happened}
+use Rattle.mu_model_node.specs.Safe.{Happening, Done, CutPower, Torn, happened}
 use Rattle.mu_model_node.specs.Sound.{IsActiveImage, IsNodeDurable}
 use Rattle.mu_model_node.specs.UpdateMessages.{UpdateStart, StartUpdate}
 use Rattle.mu_model_client.specs.declared.Plan.{Plan}
@@ -26,10 +26,7 @@ use Rattle.mu_model_world.specs.Judged.{owner_of}
 use Rattle.mu_model_world.specs.Outcomes.{new_member}
 use Rattle.mu_model_world.specs.World.{Member, config_of, logged_at}
 use Rattle.mu_model_mesh.specs.Mesh.{UpdaterMember, DistributorMember, Mesh, is_member, node_at, updater_at, distributor_at}
-
--- all of these packets are in the bag
-abbrev pub AreIn : List Packet → List Packet → Type 0
-AreIn bag packets = AllByRecursion (λ (p : Packet). Contains bag p) packets
+use Rattle.mu_model_mesh_safety.specs.Runs.{AreIn}
 
 -- ---- what stays
 
@@ -67,7 +64,7 @@ pub record OneMore (m next : Mesh) (address : ℕ) : Type 0 where
 
 -- ---- deeds
 
--- moments, tears and counts change, and nothing else
+-- moments, tears and counts change, and nothing else; no moment of a node falls
 pub record IsStill (m next : Mesh) : Type 0 where
   pub updaters : SameUpdaters m next
   pub air : SameAir m next
@@ -76,7 +73,7 @@ pub record IsStill (m next : Mesh) : Type 0 where
   pub begun : next.nodes.begun ≡ false → m.nodes.begun ≡ false
   pub nodes :
       (address : ℕ) (new : Member) → node_at next address ≡ Some new
-      → (old : Member) × (node_at m address ≡ Some old) × (new.group ≡ old.group) × (new.first ≡ old.first) × (new.state ≡ old.state)
+      → (old : Member) × (node_at m address ≡ Some old) × (new.group ≡ old.group) × (new.first ≡ old.first) × (new.state ≡ old.state) × (old.moment ≤ new.moment)
   pub no_node : (address : ℕ) → node_at next address ≡ None → node_at m address ≡ None
   pub distributors :
       (address : ℕ) (new : DistributorMember) → distributor_at next address ≡ Some new
@@ -95,6 +92,12 @@ pub record Says (m next : Mesh) : Type 0 where
   pub distributors : SameDistributors m next
   pub on : GoesOn m next
 
+-- what is done is done at no later moment than this; after a boot no moment was handed in yet
+abbrev pub IsBy : ℕ → Happening → Type 0
+IsBy moment (Done event now) = now ≤ moment
+IsBy moment CutPower = Unit {0}
+IsBy moment (Torn event now operations) = Unit {0}
+
 -- a node goes through a happening
 pub record NodeGoes (m next : Mesh) : Type 0 where
   pub address : ℕ
@@ -105,6 +108,9 @@ pub record NodeGoes (m next : Mesh) : Type 0 where
   pub group : new.group ≡ old.group
   pub first : new.first ≡ old.first
   pub state : new.state ≡ happened (config_of address old) old.state h
+  -- its moment doesn't fall, and it is handed no later one
+  pub moment : old.moment ≤ new.moment
+  pub by : IsBy new.moment h
   pub come : AreIn m.nodes.bag (come_by h)
   pub members : next.nodes.members ≡ set_value (nat_eq address) m.nodes.members new
   pub log : next.nodes.log ≡ m.nodes.log ++ logged_at address (logged old.state new.state)

@@ -1,5 +1,5 @@
 -- What time, a packet, a cut and a tear do in a world is a deed.
-use Rattle.std.proofs.Common.{◌≡◌, ℕ, ◌-◌, max, List, [], ◌∷◌, ◌++◌, length, Option, Some, None, true, false, cond, nat_eq, nat_le, refl, sym, ap, subst, ◌∙◌, inl, inr, slice_get, append-nil}
+use Rattle.std.proofs.Common.{◌≡◌, ℕ, ◌-◌, ◌≤◌, arith, max, List, [], ◌∷◌, ◌++◌, length, Option, Some, None, true, false, cond, nat_eq, nat_le, refl, sym, ap, subst, ◌∙◌, inl, inr, slice_get, append-nil}
 use Rattle.std.specs.List.{AllByRecursion}
 use Rattle.std.specs.Map.{lookup}
 use Rattle.mu_model_flash.specs.declared.Pattern.{Pattern}
@@ -20,7 +20,8 @@ use Rattle.mu_model_world.specs.Outcomes.{happens, happens_by, unread, torn, ran
 use Rattle.mu_model_mesh.specs.Mesh.{UpdaterMember, DistributorMember, Mesh, node_at, updater_at, distributor_at, with_nodes, with_distributor, without_transfer}
 use Rattle.mu_model_mesh.specs.MeshOutcomes.{MeshOutcome, of_nodes, all_of_nodes, updater_ran, dist_ran, dist_booted, dist_torn, dist_happens_by, dist_happens, unread_if, given_by, given_packet, given, timed_by, time_comes, cut_by, armed_by, mesh_begun}
 use Rattle.mu_model_mesh_safety.specs.Laws.{node_cut, dist_cut}
-use Rattle.mu_model_mesh_safety.proofs.Deeds.{AreIn, MoreAir, IsStill, Deed, still, node_goes, updater_goes, distributor_goes}
+use Rattle.mu_model_mesh_safety.specs.Runs.{AreIn}
+use Rattle.mu_model_mesh_safety.proofs.Deeds.{IsBy, MoreAir, IsStill, Deed, still, node_goes, updater_goes, distributor_goes}
 use Rattle.mu_model_mesh_safety.proofs.DoingPlaces.{at_place, pads, pads_none, changed, changed_none}
 
 -- each outcome is a deed of the world
@@ -28,6 +29,9 @@ abbrev pub AreDeeds : Mesh → List MeshOutcome → Type 0
 AreDeeds m outs = AllByRecursion (λ (o : MeshOutcome). Deed m o.mesh) outs
 
 -- ---- nothing changes but counts
+
+le_self : (n : ℕ) → n ≤ n
+le_self n = omega arith
 
 pub is_still : (m next : Mesh) → next.updaters ≡ m.updaters → next.distributors ≡ m.distributors → next.transfers ≡ m.transfers → next.order ≡ m.order
     → next.nodes.members ≡ m.nodes.members → next.nodes.bag ≡ m.nodes.bag → next.nodes.log ≡ m.nodes.log → (next.nodes.begun ≡ false → m.nodes.begun ≡ false) → IsStill m next
@@ -37,7 +41,7 @@ is_still m next updaters distributors transfers order members bag log begun = re
   order = order;
   log = log;
   begun = begun;
-  nodes = λ address new is. (new, ap (λ es. lookup (nat_eq address) es) (sym members) ∙ is, refl, refl, refl);
+  nodes = λ address new is. (new, ap (λ es. lookup (nat_eq address) es) (sym members) ∙ is, refl, refl, refl, le_self new.moment);
   no_node = λ address is. ap (λ es. lookup (nat_eq address) es) (sym members) ∙ is;
   distributors = λ address new is. (new, ap (λ es. lookup (nat_eq address) es) (sym distributors) ∙ is, refl);
   no_distributor = λ address is. ap (λ es. lookup (nat_eq address) es) (sym distributors) ∙ is;
@@ -79,10 +83,10 @@ silent_air m nodes same =
     }
 
 module _ (m : Mesh) (begun : m.nodes.begun ≡ true) where
-  module _ (address now : ℕ) (n : Member) (at : node_at m address ≡ Some n) where
-    node_boots : (h : Happening) (left : NodeDurable) → restarted left ≡ happened (config_of address n) n.state h → sent_by (config_of address n) n.state h ≡ [] → AreIn m.nodes.bag (come_by h)
+  module _ (address now : ℕ) (n : Member) (at : node_at m address ≡ Some n) (later : n.moment ≤ now) where
+    node_boots : (h : Happening) (left : NodeDurable) → restarted left ≡ happened (config_of address n) n.state h → sent_by (config_of address n) n.state h ≡ [] → AreIn m.nodes.bag (come_by h) → IsBy now h
         → Deed m (of_nodes m (booted m.nodes address (node_then now n) left)).mesh
-    node_boots h left next silent come = node_goes (record {
+    node_boots h left next silent come by = node_goes (record {
       address = address;
       old = n;
       new = record n { moment = now; tear = None; state = restarted left };
@@ -91,6 +95,8 @@ module _ (m : Mesh) (begun : m.nodes.begun ≡ true) where
       group = refl;
       first = refl;
       state = next;
+      moment = later;
+      by = by;
       come = come;
       members = refl;
       log = refl;
@@ -111,6 +117,8 @@ module _ (m : Mesh) (begun : m.nodes.begun ≡ true) where
         group = refl;
         first = refl;
         state = refl;
+        moment = later;
+        by = le_self now;
         come = come_done m.nodes.bag event now come;
         members = refl;
         log = refl;
@@ -121,7 +129,7 @@ module _ (m : Mesh) (begun : m.nodes.begun ≡ true) where
       })
 
       node_left : (operations : ℕ) → Deed m (of_nodes m (booted m.nodes address (node_then now n) (left_after (config_of address n) n.state event now operations))).mesh
-      node_left operations = node_boots (Torn event now operations) _ refl refl (come_torn m.nodes.bag event now operations come)
+      node_left operations = node_boots (Torn event now operations) _ refl refl (come_torn m.nodes.bag event now operations come) tt
 
       node_torn : (operation : ℕ) (pattern : Pattern) → AreDeeds m (all_of_nodes m (torn m.nodes address (node_then now n) event (record { operation = operation; pattern = pattern })))
       node_torn operation OldBits = (node_left _, tt)
@@ -232,7 +240,7 @@ module _ (m : Mesh) (begun : m.nodes.begun ≡ true) where
 
   given_deeds : (number address : ℕ) (packet : Packet) (n : Option Member) (u : Option UpdaterMember) (d : Option DistributorMember) → slice_get m.nodes.bag number ≡ Some packet
       → node_at m address ≡ n → updater_at m address ≡ u → distributor_at m address ≡ d → AreDeeds m (given_by m number address packet n u d)
-  given_deeds number address packet (Some n) u d is node updater distributor = node_happens address n.moment n node (PacketComes packet) (at_place m.nodes.bag number packet is, tt) (unread number address n packet)
+  given_deeds number address packet (Some n) u d is node updater distributor = node_happens address n.moment n node (le_self n.moment) (PacketComes packet) (at_place m.nodes.bag number packet is, tt) (unread number address n packet)
   given_deeds number address packet None (Some u) d is node updater distributor = (updater_deed address u.moment u (PacketComes packet) (unread_if number address (updater_step u.updater (PacketComes packet) u.moment).handled) updater (at_place m.nodes.bag number packet is, tt), tt)
   given_deeds number address packet None None (Some d) is node updater distributor =
       dist_deeds address d.moment d distributor (PacketComes packet) (at_place m.nodes.bag number packet is, tt)
@@ -250,7 +258,7 @@ module _ (m : Mesh) (begun : m.nodes.begun ≡ true) where
 
   timed_deeds : (address ms : ℕ) (n : Option Member) (u : Option UpdaterMember) (d : Option DistributorMember) → node_at m address ≡ n → updater_at m address ≡ u → distributor_at m address ≡ d
       → AreDeeds m (timed_by m address ms n u d)
-  timed_deeds address ms (Some n) u d node updater distributor = node_happens address (max n.moment ms) n node TimeComes tt []
+  timed_deeds address ms (Some n) u d node updater distributor = node_happens address (max n.moment ms) n node (omega arith) TimeComes tt []
   timed_deeds address ms None (Some u) d node updater distributor = (updater_deed address (max u.moment ms) u TimeComes [] updater tt, tt)
   timed_deeds address ms None None (Some d) node updater distributor = dist_deeds address (max d.moment ms) d distributor TimeComes tt []
   timed_deeds address ms None None None node updater distributor = tt
@@ -261,7 +269,7 @@ module _ (m : Mesh) (begun : m.nodes.begun ≡ true) where
   -- ---- power
 
   pub deeds_of_cut : (address : ℕ) (n : Option Member) (d : Option DistributorMember) → node_at m address ≡ n → distributor_at m address ≡ d → AreDeeds m (cut_by m address n d)
-  deeds_of_cut address (Some n) d node distributor = (node_boots address n.moment n node CutPower n.state.durable refl refl tt, tt)
+  deeds_of_cut address (Some n) d node distributor = (node_boots address n.moment n node (le_self n.moment) CutPower n.state.durable refl refl tt tt, tt)
   deeds_of_cut address None (Some d) node distributor = (dist_boots address d.moment d distributor CutPower d.state.durable refl refl tt, tt)
   deeds_of_cut address None None node distributor = tt
 
@@ -269,7 +277,7 @@ module _ (m : Mesh) (begun : m.nodes.begun ≡ true) where
   pub deed_of_node_cut : (address : ℕ) (n : Member) (event : NodeEvent) (now operations : ℕ) → node_at m address ≡ Some n → AreIn m.nodes.bag (event_packets event)
       → Deed m (node_cut m address n event now operations)
   deed_of_node_cut address n event now operations at come =
-      node_boots address n.moment n at (Torn event now operations) _ refl refl (come_torn m.nodes.bag event now operations come)
+      node_boots address n.moment n at (le_self n.moment) (Torn event now operations) _ refl refl (come_torn m.nodes.bag event now operations come) tt
 
   pub deed_of_dist_cut : (address : ℕ) (d : DistributorMember) (event : NodeEvent) (now operations : ℕ) → distributor_at m address ≡ Some d → AreIn m.nodes.bag (event_packets event)
       → Deed m (dist_cut m address d event now operations)
@@ -285,8 +293,8 @@ armed_node m address n tear at = record {
   begun = λ early. early;
   nodes = λ b new is.
       elim (changed m.nodes.members address b (record n { tear = tear }) new is) [
-        | inl here ↦ (n, subst (λ x. node_at m x ≡ Some n) (sym here.0) at, ap (λ (x : Member). x.group) here.1, ap (λ (x : Member). x.first) here.1, ap (λ (x : Member). x.state) here.1)
-        | inr there ↦ (new, there, refl, refl, refl)
+        | inl here ↦ (n, subst (λ x. node_at m x ≡ Some n) (sym here.0) at, ap (λ (x : Member). x.group) here.1, ap (λ (x : Member). x.first) here.1, ap (λ (x : Member). x.state) here.1, subst (λ (x : Member). n.moment ≤ x.moment) (sym here.1) (le_self n.moment))
+        | inr there ↦ (new, there, refl, refl, refl, le_self new.moment)
       ];
   no_node = λ b is. changed_none m.nodes.members address b (record n { tear = tear }) is;
   distributors = λ b new is. (new, is, refl);
@@ -300,7 +308,7 @@ armed_distributor m address d tear at = record {
   order = refl;
   log = refl;
   begun = λ early. early;
-  nodes = λ b new is. (new, is, refl, refl, refl);
+  nodes = λ b new is. (new, is, refl, refl, refl, le_self new.moment);
   no_node = λ b is. is;
   distributors = λ b new is.
       elim (changed m.distributors address b (record d { tear = tear }) new is) [

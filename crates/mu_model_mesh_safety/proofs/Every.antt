@@ -6,23 +6,26 @@ use Rattle.mu_model_distributor_laws.specs.Starts.{NewIsUnused, StockedIsUnused}
 use Rattle.mu_model_distributor_laws.specs.Planned.{CountersRise}
 use Rattle.mu_model_distributor_laws.specs.RunLaws.{NoNumberIsLost}
 use Rattle.mu_model_fates.specs.Laws.{JobIsLogged, JobGoesOn}
+use Rattle.mu_model_fates.specs.Moments.{MomentsAreTheGreatest}
 use Rattle.mu_model_offers.specs.Packets.{PacketsSayStarts}
-use Rattle.mu_model_packets.specs.Laws.{OctetsSayFit, NodesSendFit, UpdatersSendFit, DistributorsSendFit}
+use Rattle.mu_model_packets.specs.Laws.{PacketFits, OctetsSayFit, NodesSendFit, UpdatersSendFit, DistributorsSendFit}
 use Rattle.mu_model_script.specs.Laws.{ScriptEventIsInRange}
 use Rattle.mu_model_told.specs.Reached.{SentIsReached}
 use Rattle.mu_model_updater.specs.Laws.{LinesAreInRange, SendsFromItsAddress}
 use Rattle.mu_model_updater.specs.Updater.{come_by as event_packets}
 use Rattle.mu_model_mesh.specs.Mesh.{Mesh, new_mesh}
 use Rattle.mu_model_mesh.specs.MeshOutcomes.{mesh_begun}
-use Rattle.mu_model_mesh_safety.specs.Laws.{Always, MayCome, AfterCuts, EveryWorldIsSafe, EveryCutIsSafe, EveryListIsTrue, ListsStayTrue, EveryFactHolds}
+use Rattle.mu_model_mesh_safety.specs.Laws.{Always, MayCome, AfterCuts, EveryWorldIsOfRuns, EveryWorldIsSafe, EveryCutIsSafe, EveryListIsTrue, ListsStayTrue, EveryFactHolds}
 use Rattle.mu_model_mesh_safety.specs.Safe.{IsSafe, ListsAreTrue}
 use Rattle.mu_model_mesh_safety.specs.Facts.{TransfersAreKept, FactsHold}
-use Rattle.mu_model_mesh_safety.proofs.Deeds.{Deed, AreIn}
+use Rattle.mu_model_mesh_safety.specs.Runs.{AreIn, IsOfRuns}
+use Rattle.mu_model_mesh_safety.proofs.Deeds.{Deed}
 use Rattle.mu_model_mesh_safety.proofs.Doing.{always_keeps}
 use Rattle.mu_model_mesh_safety.proofs.DoingEvents.{begins, deed_of_node_cut, deed_of_dist_cut}
 use Rattle.mu_model_mesh_safety.proofs.Facts.{statuses_are_reached, versions_rise, shown_images_were_had, jobs_are_logged, verified_jobs_go_on}
+use Rattle.mu_model_mesh_safety.proofs.KeepingLists.{weaker}
 use Rattle.mu_model_mesh_safety.proofs.Keeping.{kept_new, deed_keeps}
-use Rattle.mu_model_mesh_safety.proofs.Kept.{Kept}
+use Rattle.mu_model_mesh_safety.proofs.Kept.{IsPacket, Kept}
 use Rattle.mu_model_mesh_safety.proofs.ShownAir.{starts_are_own, starts_are_of_one_offer, counters_are_ahead}
 use Rattle.mu_model_mesh_safety.proofs.Transfers.{TransferLaws, transfers_new, transfers_keep}
 use Rattle.mu_model_mesh_safety.proofs.ShownLists.{lists_new, lists_keep}
@@ -37,6 +40,7 @@ pub record LineLaws : Type 0 where
   pub lines : LinesAreInRange
   pub range : ScriptEventIsInRange
   pub octets : OctetsSayFit
+  pub greatest : MomentsAreTheGreatest
   pub nodes : NodesSendFit
   pub updaters : UpdatersSendFit
   pub distributors : DistributorsSendFit
@@ -57,15 +61,28 @@ packets_come : (m : Mesh) (event : NodeEvent) → MayCome m event → AreIn m.no
 packets_come m (PacketComes packet) h = (h, tt)
 packets_come m TimeComes h = tt
 
+-- the invariant says of each member that it went through a run
+of_runs : (m : Mesh) → Kept m → IsOfRuns m
+of_runs m k = record {
+  nodes = λ address n at. (k.nodes address n at).0;
+  updaters = k.updaters;
+  distributors = k.distributors;
+  packets = weaker (IsPacket m) PacketFits m.nodes.bag (λ p is. is.fits) k.packets;
+  apart = k.apart;
+}
+
 module _ (laws : LineLaws) where
   pub keeps : (m next : Mesh) → Kept m → Deed m next → Kept next
-  keeps m next kept deed = deed_keeps laws.octets laws.nodes laws.updaters laws.distributors laws.packets laws.from laws.unused laws.stocked m next deed kept
+  keeps m next kept deed = deed_keeps laws.octets laws.greatest laws.nodes laws.updaters laws.distributors laws.packets laws.from laws.unused laws.stocked m next deed kept
 
   pub always : (P : Mesh → Type 0) → ((m next : Mesh) → P m → Deed m next → P next) → P new_mesh → Always P
   always P keep start = always_keeps P keep laws.fit laws.metadata laws.made laws.lines laws.range start
 
   pub always_kept : Always Kept
   always_kept = always Kept keeps kept_new
+
+  pub every_run : EveryWorldIsOfRuns
+  every_run lines text m mid run within = of_runs mid (always_kept lines text m mid run within)
 
   -- what follows from the invariant holds after each cut too
   pub after_cuts : (Holds : Mesh → Type 0) → ((m : Mesh) → Kept m → Holds m) → (m : Mesh) → Kept m → AfterCuts Holds (mesh_begun m)

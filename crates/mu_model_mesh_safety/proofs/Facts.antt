@@ -14,8 +14,9 @@ use Rattle.mu_model_told.specs.Reached.{WasReached, IdsAreSafe, IsReached, SentI
 use Rattle.mu_model_world.specs.World.{Member, config_of, log_at}
 use Rattle.mu_model_mesh.specs.Mesh.{Mesh, node_at}
 use Rattle.mu_model_mesh_safety.specs.Facts.{StatusesAreReached, VersionsRise, AreOfImages, ShownImagesWereHad, JobsAreLogged, VerifiedJobsGoOn}
+use Rattle.mu_model_mesh_safety.specs.Runs.{NodeRun}
 use Rattle.mu_model_mesh_safety.proofs.DoingPlaces.{of_all}
-use Rattle.mu_model_mesh_safety.proofs.Kept.{NodeRun, IsLogOf, Kept}
+use Rattle.mu_model_mesh_safety.proofs.Kept.{IsLogOf, Kept}
 
 -- ---- lists
 

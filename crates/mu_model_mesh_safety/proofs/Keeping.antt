@@ -1,6 +1,7 @@
 -- Every deed keeps the invariant.
 use Rattle.std.proofs.Common.{refl}
 use Rattle.mu_model_distributor_laws.specs.Starts.{NewIsUnused, StockedIsUnused}
+use Rattle.mu_model_fates.specs.Moments.{MomentsAreTheGreatest}
 use Rattle.mu_model_offers.specs.Packets.{PacketsSayStarts}
 use Rattle.mu_model_packets.specs.Laws.{OctetsSayFit, NodesSendFit, UpdatersSendFit, DistributorsSendFit}
 use Rattle.mu_model_updater.specs.Laws.{SendsFromItsAddress}
@@ -23,6 +24,7 @@ kept_new = record {
     distributors = λ a d is. absurd cc;
     unicast = λ a is. absurd cc;
     some = λ a is. absurd cc;
+    once = tt;
   };
   padded = refl;
   early = λ e. refl;
@@ -30,13 +32,13 @@ kept_new = record {
 }
 
 module _
-    (octets : OctetsSayFit) (nodes_fit : NodesSendFit) (updaters_fit : UpdatersSendFit) (distributors_fit : DistributorsSendFit)
+    (octets : OctetsSayFit) (greatest : MomentsAreTheGreatest) (nodes_fit : NodesSendFit) (updaters_fit : UpdatersSendFit) (distributors_fit : DistributorsSendFit)
     (packets : PacketsSayStarts) (updaters_from : SendsFromItsAddress) (new_unused : NewIsUnused) (stocked_unused : StockedIsUnused)
   where
     pub deed_keeps : (m next : Mesh) → Deed m next → Kept m → Kept next
     deed_keeps m next (still d) k = keeps_still m next d k
     deed_keeps m next (says d) k = keeps_says octets m next d k
-    deed_keeps m next (node_goes d) k = keeps_node nodes_fit m next d k
+    deed_keeps m next (node_goes d) k = keeps_node greatest nodes_fit m next d k
     deed_keeps m next (updater_goes d) k = keeps_updater updaters_from updaters_fit m next d k
     deed_keeps m next (distributor_goes d) k = keeps_distributor packets distributors_fit m next d k
     deed_keeps m next (adds_node d) k = keeps_new_node m next d k

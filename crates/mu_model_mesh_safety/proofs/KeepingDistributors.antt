@@ -13,8 +13,7 @@ use Rattle.mu_model_offers.specs.Packets.{IsPacketOf, PacketsSayStarts, packets_
 use Rattle.mu_model_packets.specs.Laws.{PacketFits, DistributorsSendFit}
 use Rattle.mu_model_script.specs.Ranges.{IsUnicast}
 use Rattle.mu_model_mesh.specs.Mesh.{DistributorMember}
-use Rattle.mu_model_mesh_safety.proofs.Deeds.{AreIn}
-use Rattle.mu_model_mesh_safety.proofs.Kept.{DistributorRun}
+use Rattle.mu_model_mesh_safety.specs.Runs.{AreIn, DistributorRun}
 use Rattle.mu_model_mesh_safety.proofs.KeepingLists.{all_append, all_right, weaker}
 use Rattle.mu_model_mesh_safety.proofs.KeepingPackets.{AllFrom, in_wider, sent_other, sent_own, come_on}
 
@@ -105,8 +104,8 @@ distributor_sends_from send bag address d h unicast fits r =
     weaker (IsPacketOf (longer r.run h)) (λ (p : Packet). p.from ≡ address) (packets_by address d.state h) (λ p is. is.from ∙ own)
     (all_right (IsPacketOf (longer r.run h)) (packets_of r.run) (packets_by address d.state h) (rw (packets_on bag address d h r) at all))
 
-pub distributor_sends_fit : DistributorsSendFit → (bag : List Packet) (address : ℕ) (d : DistributorMember) (h : Happening) → HappeningFits h → DistributorRun bag address d
+pub distributor_sends_fit : DistributorsSendFit → (bag : List Packet) (address : ℕ) (d : DistributorMember) (h : Happening) → DistributorRun bag address d
     → AllByRecursion PacketFits (packets_by address d.state h)
-distributor_sends_fit send bag address d h fits r =
-    let all = send (longer r.run h) (longer_is r.run h fits r.is) in
+distributor_sends_fit send bag address d h r =
+    let all = send (longer r.run h) in
     all_right PacketFits (packets_of r.run) (packets_by address d.state h) (rw (packets_on bag address d h r) at all)

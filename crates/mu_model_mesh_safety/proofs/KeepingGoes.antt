@@ -6,6 +6,7 @@ use Rattle.mu_model_wire.specs.Packet.{Packet}
 use Rattle.mu_model_node.specs.Log.{LogEntry, logged}
 use Rattle.mu_model_distributor.specs.DistState.{transfer_id}
 use Rattle.mu_model_distributor_laws.specs.RunLaws.{HappeningFits as DistributorHappeningFits}
+use Rattle.mu_model_fates.specs.Moments.{MomentsAreTheGreatest}
 use Rattle.mu_model_offers.specs.Packets.{PacketsSayStarts, packets_by}
 use Rattle.mu_model_packets.specs.Laws.{OctetsSayFit, NodesSendFit, UpdatersSendFit, DistributorsSendFit}
 use Rattle.mu_model_told.specs.Reached.{HappeningFits, sent_by}
@@ -13,8 +14,9 @@ use Rattle.mu_model_updater.specs.Laws.{SendsFromItsAddress}
 use Rattle.mu_model_updater.specs.Updater.{updater_step}
 use Rattle.mu_model_world.specs.World.{Member, Logged, config_of, log_at, logged_at}
 use Rattle.mu_model_mesh.specs.Mesh.{UpdaterMember, DistributorMember, Mesh, is_member, node_at, updater_at, distributor_at}
+use Rattle.mu_model_mesh_safety.specs.Runs.{UpdaterRun, DistributorRun}
 use Rattle.mu_model_mesh_safety.proofs.Deeds.{Says, NodeGoes, UpdaterGoes, DistributorGoes}
-use Rattle.mu_model_mesh_safety.proofs.Kept.{UpdaterRun, DistributorRun, IsPacket, Kept}
+use Rattle.mu_model_mesh_safety.proofs.Kept.{IsPacket, Kept}
 use Rattle.mu_model_mesh_safety.proofs.KeepingLists.{all_append, changed, changed_none, changed_places, same_places, SamePlaces, log_same, log_other, are_same, AreSame, Yes, No}
 use Rattle.mu_model_mesh_safety.proofs.KeepingPlaces.{placed, apart_in, are_apart, Parts, with_parts, of_parts}
 use Rattle.mu_model_mesh_safety.proofs.KeepingPackets.{AllFrom, packets_same, own_packets, padded_more, happening_fits, distributor_happening_fits}
@@ -109,7 +111,7 @@ module _ (say : OctetsSayFit) where
 
 -- ---- a node goes on
 
-module _ (send : NodesSendFit) where
+module _ (greatest : MomentsAreTheGreatest) (send : NodesSendFit) where
   pub keeps_node : (m next : Mesh) → NodeGoes m next → Kept m → Kept next
   keeps_node m next d k =
       subst Kept (sym (of_parts next (aired m members log m.updaters m.distributors sent None) d.members d.air.bag d.log d.on.begun d.updaters.updaters d.distributors.distributors d.on.order d.air.transfers))
@@ -154,7 +156,7 @@ module _ (send : NodesSendFit) where
 
       own : HasRun bag d.address d.new (log_at d.address log)
       own = subst (HasRun bag d.address d.new) (sym (log_same m.nodes.log d.address entries))
-          (node_on m.nodes.bag d.address d.old d.new d.h (log_at d.address m.nodes.log) (record { group = d.group; first = d.first }) d.state fits d.come run)
+          (node_on greatest m.nodes.bag d.address d.old d.new d.h (log_at d.address m.nodes.log) (record { group = d.group; first = d.first }) d.state d.moment d.by fits d.come run)
 
       silent_still : (b : ℕ) → node_at m b ≡ None → {t : Bool} → AreSame b d.address t → log_at b log ≡ []
       silent_still b none (Yes same) = absurd (two m.nodes.members d.address b d.old d.at none same)
@@ -218,7 +220,7 @@ module _ (say : PacketsSayStarts) (send : DistributorsSendFit) where
         updaters_stay = same_places m.updaters;
         distributors_stay = changed_places m.distributors d.address d.old d.new d.at;
       })
-      (own_packets m d.address sent member from (distributor_sends_fit send m.nodes.bag d.address d.old d.h fits run)) k)
+      (own_packets m d.address sent member from (distributor_sends_fit send m.nodes.bag d.address d.old d.h run)) k)
     where
       sent : List Packet
       sent = packets_by d.address d.old.state d.h

@@ -8,8 +8,9 @@ use Rattle.mu_model_updater.specs.Updater.{new_updater}
 use Rattle.mu_model_world.specs.World.{Member, log_at}
 use Rattle.mu_model_world.specs.Outcomes.{new_member}
 use Rattle.mu_model_mesh.specs.Mesh.{UpdaterMember, DistributorMember, Mesh, is_member, node_at}
+use Rattle.mu_model_mesh_safety.specs.Runs.{UpdaterRun, DistributorRun}
 use Rattle.mu_model_mesh_safety.proofs.Deeds.{IsStill, NewNode, NewUpdater, NewDistributor, Stocks}
-use Rattle.mu_model_mesh_safety.proofs.Kept.{UpdaterRun, DistributorRun, IsPacket, Kept}
+use Rattle.mu_model_mesh_safety.proofs.Kept.{IsPacket, Kept}
 use Rattle.mu_model_mesh_safety.proofs.KeepingLists.{added, added_none, changed, changed_places, same_places}
 use Rattle.mu_model_mesh_safety.proofs.KeepingPlaces.{turned, placed, one_more, free_of, apart_in, are_apart, Parts, with_parts, of_parts}
 use Rattle.mu_model_mesh_safety.proofs.KeepingPackets.{packets_same}
@@ -25,7 +26,7 @@ keeps_still m next d k =
     (record {
       nodes = λ b n is.
           let was = d.nodes b n is in
-          node_same m.nodes.bag b was.0 n (log_at b m.nodes.log) (record { group = was.2; first = was.3 }) was.4 (k.nodes b was.0 was.1);
+          node_same m.nodes.bag b was.0 n (log_at b m.nodes.log) (record { group = was.2; first = was.3 }) was.4 was.5 (k.nodes b was.0 was.1);
       silent = λ b none. k.silent b (d.no_node b none);
       updaters = k.updaters;
       distributors = λ b x is.

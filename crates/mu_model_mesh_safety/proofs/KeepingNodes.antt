@@ -1,5 +1,5 @@
 -- Each node goes on with its run.
-use Rattle.std.proofs.Common.{◌≡◌, ◌⊎◌, ◌≤◌, ℕ, List, [], ◌∷◌, ◌++◌, Option, Some, None, true, false, cond, refl, sym, ap, subst, ◌∙◌, append_assoc, append-nil, map}
+use Rattle.std.proofs.Common.{◌≡◌, ◌⊎◌, ◌≤◌, ℕ, arith, List, [], ◌∷◌, ◌++◌, Option, Some, None, true, false, cond, refl, sym, ap, subst, ◌∙◌, append_assoc, append-nil, map}
 use Rattle.std.specs.List.{AllByRecursion}
 use Rattle.mu_model_image.specs.Meta.{Image, IsMeta}
 use Rattle.mu_model_wire.specs.Packet.{Packet}
@@ -11,12 +11,14 @@ use Rattle.mu_model_node.specs.NodeState.{NodeDurable, NodeState, restarted, is_
 use Rattle.mu_model_node.specs.Safe.{Happening, Done, CutPower, Torn, happened, state_after, log_after}
 use Rattle.mu_model_node.specs.Sound.{IsNodeDurable}
 use Rattle.mu_model_fates.specs.Laws.{come_by}
+use Rattle.mu_model_fates.specs.Moments.{MomentsAreTheGreatest}
 use Rattle.mu_model_packets.specs.Laws.{PacketFits, IsAnswer, NodesSendFit}
 use Rattle.mu_model_told.specs.Reached.{HappeningFits, sent_by, sent_in}
 use Rattle.mu_model_world.specs.World.{Member, config_of}
 use Rattle.mu_model_world.specs.Outcomes.{new_member}
-use Rattle.mu_model_mesh_safety.proofs.Deeds.{AreIn}
-use Rattle.mu_model_mesh_safety.proofs.Kept.{NodeRun, IsLogOf}
+use Rattle.mu_model_mesh_safety.specs.Runs.{AreIn, NodeRun}
+use Rattle.mu_model_mesh_safety.proofs.Deeds.{IsBy}
+use Rattle.mu_model_mesh_safety.proofs.Kept.{IsLogOf}
 use Rattle.mu_model_mesh_safety.proofs.KeepingLists.{all_append, weaker}
 use Rattle.mu_model_mesh_safety.proofs.KeepingPackets.{AllFrom, in_wider, sent_other, sent_own, come_on}
 
@@ -82,6 +84,7 @@ node_wider bag more address other n log apart from (r, is_log) = (
     fits = r.fits;
     come = in_wider bag more _ r.come;
     sent = sent_other bag more _ address other apart from r.sent;
+    handed = r.handed;
   },
   is_log,
 )
@@ -95,9 +98,10 @@ pub record IsLike (old new : Member) : Type 0 where
 same_config : (address : ℕ) (old new : Member) → IsLike old new → config_of address old ≡ config_of address new
 same_config address old new l = ap (λ (group : ℕ). record { address = address; group = group }) (sym l.group)
 
-pub node_same : (bag : List Packet) (address : ℕ) (old new : Member) (log : List LogEntry) → IsLike old new → new.state ≡ old.state → HasRun bag address old log → HasRun bag address new log
-node_same bag address old new log l same (r, is_log) =
-    let at = same_config address old new l in (
+pub node_same : (bag : List Packet) (address : ℕ) (old new : Member) (log : List LogEntry) → IsLike old new → new.state ≡ old.state → old.moment ≤ new.moment → HasRun bag address old log → HasRun bag address new log
+node_same bag address old new log l same later (r, is_log) =
+    let at = same_config address old new l in
+    let before = r.handed in (
       record {
         made = r.made;
         hs = r.hs;
@@ -110,20 +114,31 @@ node_same bag address old new log l same (r, is_log) =
         fits = r.fits;
         come = r.come;
         sent = rw (← at) r.sent;
+        handed = rw same (omega (arith, before, later));
       },
       is_log ∙ ap (λ c. log_after c (restarted r.made) r.hs) at,
     )
 
 -- ---- a node goes through a happening
 
-pub node_on : (bag : List Packet) (address : ℕ) (old new : Member) (h : Happening) (log : List LogEntry) → IsLike old new → new.state ≡ happened (config_of address old) old.state h
-    → HappeningFits h → AreIn bag (come_by h) → HasRun bag address old log
+-- no moment that it was handed is later than its present one
+handed_by : MomentsAreTheGreatest → (config : NodeConfig) (s : NodeState) (moment : ℕ) (h : Happening) → s.moment ≤ moment → IsBy moment h → (happened config s h).moment ≤ moment
+handed_by greatest config s moment (Done event now) before by =
+    let is = greatest config s event now in
+    omega (arith, before, by, is)
+handed_by greatest config s moment CutPower before by = omega arith
+handed_by greatest config s moment (Torn event now operations) before by = omega arith
+
+pub node_on : MomentsAreTheGreatest → (bag : List Packet) (address : ℕ) (old new : Member) (h : Happening) (log : List LogEntry) → IsLike old new → new.state ≡ happened (config_of address old) old.state h
+    → old.moment ≤ new.moment → IsBy new.moment h → HappeningFits h → AreIn bag (come_by h) → HasRun bag address old log
     → HasRun (bag ++ sent_by (config_of address old) old.state h) address new (log ++ logged old.state new.state)
-node_on bag address old new h log l next fits come (r, is_log) =
+node_on greatest bag address old new h log l next later by fits come (r, is_log) =
     let config = config_of address old in
     let start = restarted r.made in
     let at = same_config address old new l in
     let hs : List Happening = r.hs ++ h ∷ [] in
+    let before = r.handed in
+    let handed : old.state.moment ≤ new.moment = omega (arith, before, later) in
     let state : new.state ≡ state_after config start hs = next ∙ (ap (λ s. happened config s h) r.state ∙ sym (state_more config start r.hs h)) in
     let steps : logged old.state new.state ≡ logged (state_after config start r.hs) (happened config (state_after config start r.hs) h) =
     ap (λ s. logged old.state s) next ∙ ap (λ s. logged s (happened config s h)) r.state in
@@ -141,6 +156,7 @@ node_on bag address old new h log l next fits come (r, is_log) =
         fits = all_append HappeningFits r.hs (h ∷ []) r.fits (fits, tt);
         come = come_on bag _ r.hs h r.come come;
         sent = rw (← at) (rw (← sent) (sent_own bag (sent_by config old.state h) (sent_in config start r.hs) address r.sent));
+        handed = rw next (handed_by greatest config old.state new.moment h handed by);
       },
       ap (λ es. es ++ logged old.state new.state) is_log ∙ (ap (λ es. log_after config start r.hs ++ es) steps ∙ (sym (log_more config start r.hs h) ∙ ap (λ c. log_after c start hs) at)),
     )
@@ -159,6 +175,7 @@ node_begins address group made no_address sound jobless metas = (
     fits = tt;
     come = tt;
     sent = tt;
+    handed = omega arith;
   },
   refl,
 )

@@ -11,8 +11,8 @@ use Rattle.mu_model_fates.specs.Laws.{come_by, come_in}
 use Rattle.mu_model_packets.specs.Laws.{PacketFits}
 use Rattle.mu_model_told.specs.Reached.{HappeningFits}
 use Rattle.mu_model_mesh.specs.Mesh.{Mesh, is_member}
-use Rattle.mu_model_mesh_safety.proofs.Deeds.{AreIn}
-use Rattle.mu_model_mesh_safety.proofs.Kept.{SentBy, IsPacket}
+use Rattle.mu_model_mesh_safety.specs.Runs.{AreIn, SentBy}
+use Rattle.mu_model_mesh_safety.proofs.Kept.{IsPacket}
 use Rattle.mu_model_mesh_safety.proofs.KeepingLists.{all_append, all_in, both, of_all, weaker}
 
 -- ---- what a member has of the bag

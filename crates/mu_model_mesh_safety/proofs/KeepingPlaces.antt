@@ -1,14 +1,14 @@
 -- Addresses stay apart, and a world from its parts.
-use Rattle.std.proofs.Common.{◌≡◌, ℕ, List, [], ◌∷◌, ◌++◌, Option, Some, None, Bool, true, false, nat_eq, ◌||◌, refl, sym, ap, ◌∙◌, subst, ◌⊎◌, inl, inr}
+use Rattle.std.proofs.Common.{◌≡◌, ℕ, List, [], ◌∷◌, ◌++◌, Option, Some, None, Bool, true, false, nat_eq, ◌||◌, refl, sym, ap, ◌∙◌, subst, ◌⊎◌, inl, inr, ◌≢◌}
 use Rattle.std.proofs.lemmas.List.Folds.{list_any-append}
-use Rattle.std.specs.List.{list_any}
+use Rattle.std.specs.List.{AllByRecursion, list_any}
 use Rattle.std.specs.Map.{lookup}
 use Rattle.mu_model_wire.specs.Packet.{Packet}
 use Rattle.mu_model_script.specs.Ranges.{IsUnicast}
 use Rattle.mu_model_world.specs.World.{Member, Logged}
 use Rattle.mu_model_mesh.specs.Mesh.{UpdaterMember, DistributorMember, Mesh}
-use Rattle.mu_model_mesh_safety.proofs.Kept.{AreApart}
-use Rattle.mu_model_mesh_safety.proofs.KeepingLists.{Yes, No, are_same, none_from, added, added_none, added_other, added_here, SamePlaces, stays_none}
+use Rattle.mu_model_mesh_safety.specs.Runs.{AreOnce, AreApart}
+use Rattle.mu_model_mesh_safety.proofs.KeepingLists.{all_append, Yes, No, are_same, none_from, added, added_none, added_other, added_here, SamePlaces, stays_none}
 
 -- ---- an order, and one address more
 
@@ -24,6 +24,22 @@ in_order_new (first ∷ order) a = elim (nat_eq a first) as (λ t. (t || list_an
   | true ↦ refl
   | false ↦ in_order_new order a
 ]
+
+-- an address that isn't in the order differs from each that is
+others_differ : (order : List ℕ) (a : ℕ) → list_any (nat_eq a) order ≡ false → AllByRecursion (λ b. b ≢ a) order
+others_differ [] a free = tt
+others_differ (first ∷ order) a free =
+    elim (are_same a first) as (λ t s. (t || list_any (nat_eq a) order) ≡ false → AllByRecursion (λ b. b ≢ a) (first ∷ order)) [
+      | Yes same ↦ λ e. absurd cc
+      | No other ↦ λ e. ((λ here. other (sym here)), others_differ order a e)
+    ] free
+
+pub once_more : (order : List ℕ) (a : ℕ) → list_any (nat_eq a) order ≡ false → AreOnce order → AreOnce (order ++ a ∷ [])
+once_more order a free once = all_once order a (others_differ order a free) once
+  where
+    all_once : (order : List ℕ) (a : ℕ) → AllByRecursion (λ b. b ≢ a) order → AreOnce order → AreOnce (order ++ a ∷ [])
+    all_once [] a apart once = (tt, tt)
+    all_once (first ∷ order) a apart once = (all_append (λ other. first ≢ other) order (a ∷ []) once.0 (apart.0, tt), all_once order a apart.1 once.1)
 
 pub in_order_cases : (order : List ℕ) (a b : ℕ) → list_any (nat_eq b) (order ++ a ∷ []) ≡ true → (list_any (nat_eq b) order ≡ true) ⊎ (b ≡ a)
 in_order_cases [] a b is = elim (are_same b a) as (λ t s. (t || false) ≡ true → (false ≡ true) ⊎ (b ≡ a)) [
@@ -45,6 +61,7 @@ pub record ApartIn {X Y Z : Type 0} (order : List ℕ) (xs : List (ℕ × X)) (y
   pub third : (a : ℕ) (z : Z) → lookup (nat_eq a) zs ≡ Some z → (list_any (nat_eq a) order ≡ true) × (lookup (nat_eq a) xs ≡ None) × (lookup (nat_eq a) ys ≡ None)
   pub unicast : (a : ℕ) → list_any (nat_eq a) order ≡ true → IsUnicast a
   pub some : (a : ℕ) → list_any (nat_eq a) order ≡ true → lookup (nat_eq a) xs ≡ None → lookup (nat_eq a) ys ≡ None → lookup (nat_eq a) zs ≡ None → ⊥
+  pub once : AreOnce order
 
 pub turned : {X Y Z : Type 0} (order : List ℕ) (xs : List (ℕ × X)) (ys : List (ℕ × Y)) (zs : List (ℕ × Z)) → ApartIn order xs ys zs → ApartIn order ys zs xs
 turned order xs ys zs p = record {
@@ -53,6 +70,7 @@ turned order xs ys zs p = record {
   third = p.first;
   unicast = p.unicast;
   some = λ a is y z x. p.some a is x y z;
+  once = p.once;
 }
 
 pub placed : {X Y Z : Type 0} (order : List ℕ) (xs more_xs : List (ℕ × X)) (ys more_ys : List (ℕ × Y)) (zs more_zs : List (ℕ × Z))
@@ -63,6 +81,7 @@ placed order xs more_xs ys more_ys zs more_zs px py pz p = record {
   third = λ a z is. let was = pz.some a z is in let t = p.third a was.0 was.1 in (t.0, stays_none xs more_xs a px t.1, stays_none ys more_ys a py t.2);
   unicast = p.unicast;
   some = λ a is x y z. p.some a is (px.none a x) (py.none a y) (pz.none a z);
+  once = p.once;
 }
 
 -- ---- one member more
@@ -95,15 +114,16 @@ one_more order xs ys zs a x free unicast p = record {
     | inl there ↦ p.some b there (added_none xs a b x no_x) no_y no_z
     | inr here ↦ added_here xs a x (subst (λ c. lookup (nat_eq c) (xs ++ (a, x) ∷ []) ≡ None) here no_x)
   ];
+  once = once_more order a free p.once;
 }
 
 -- ---- of worlds
 
 pub apart_in : (m : Mesh) → AreApart m → ApartIn m.order m.nodes.members m.updaters m.distributors
-apart_in m p = record { first = p.nodes; second = p.updaters; third = p.distributors; unicast = p.unicast; some = p.some }
+apart_in m p = record { first = p.nodes; second = p.updaters; third = p.distributors; unicast = p.unicast; some = p.some; once = p.once }
 
 pub are_apart : (m : Mesh) → ApartIn m.order m.nodes.members m.updaters m.distributors → AreApart m
-are_apart m p = record { nodes = p.first; updaters = p.second; distributors = p.third; unicast = p.unicast; some = p.some }
+are_apart m p = record { nodes = p.first; updaters = p.second; distributors = p.third; unicast = p.unicast; some = p.some; once = p.once }
 
 -- ---- a world from its parts
 

@@ -9,8 +9,7 @@ use Rattle.mu_model_packets.specs.Laws.{PacketFits, UpdatersSendFit}
 use Rattle.mu_model_updater.specs.Laws.{IsInRange, SendsFromItsAddress}
 use Rattle.mu_model_updater.specs.Updater.{Updater, new_updater, updater_step, updater_after, sent_in, come_by, come_in}
 use Rattle.mu_model_mesh.specs.Mesh.{UpdaterMember}
-use Rattle.mu_model_mesh_safety.proofs.Deeds.{AreIn}
-use Rattle.mu_model_mesh_safety.proofs.Kept.{UpdaterRun}
+use Rattle.mu_model_mesh_safety.specs.Runs.{AreIn, UpdaterRun}
 use Rattle.mu_model_mesh_safety.proofs.KeepingLists.{all_append, all_right}
 use Rattle.mu_model_mesh_safety.proofs.KeepingPackets.{AllFrom, in_wider, sent_other, sent_own}
 
@@ -105,5 +104,5 @@ updater_sends_from send bag address u event now r =
 
 pub updater_sends_fit : UpdatersSendFit → (bag : List Packet) (address : ℕ) (u : UpdaterMember) (event : NodeEvent) (now : ℕ) → UpdaterRun bag address u → AllByRecursion PacketFits (updater_step u.updater event now).sent
 updater_sends_fit send bag address u event now r =
-    let all = send r.plan r.image r.to (r.run ++ (event, now) ∷ []) r.range.meta in
+    let all = send r.plan r.image r.to (r.run ++ (event, now) ∷ []) in
     all_right PacketFits (sent_in (new_updater r.plan r.image r.to) r.run) _ (rw (sent_on bag address u event now r) at all)

@@ -1,88 +1,23 @@
 -- What holds of each world of a run: each member has gone through a run of its own, with packets of the bag.
-use Rattle.std.proofs.Common.{◌≡◌, ◌⊎◌, ℕ, ◌≤◌, ◌<◌, ◌*◌, ◌^◌, ◌+◌, List, [], length, Some, None, true, false, Contains}
+use Rattle.std.proofs.Common.{◌≡◌, ℕ, List, [], length, Some, None, false}
 use Rattle.std.specs.List.{AllByRecursion}
-use Rattle.mu_model_image.specs.Meta.{Image, IsMeta}
 use Rattle.mu_model_wire.specs.Laws.{AreOctets}
 use Rattle.mu_model_wire.specs.Packet.{Packet}
-use Rattle.mu_model_node.specs.Events.{NodeEvent}
 use Rattle.mu_model_node.specs.Log.{LogEntry}
 use Rattle.mu_model_node.specs.NodeMessages.{OfUpdate, request_at}
-use Rattle.mu_model_node.specs.NodeState.{NodeDurable, restarted}
-use Rattle.mu_model_node.specs.Safe.{Happening, state_after, log_after}
-use Rattle.mu_model_node.specs.Sound.{IsNodeDurable}
+use Rattle.mu_model_node.specs.NodeState.{restarted}
+use Rattle.mu_model_node.specs.Safe.{log_after}
 use Rattle.mu_model_node.specs.UpdateMessages.{UpdateStart, StartUpdate}
-use Rattle.mu_model_client.specs.declared.Plan.{Plan}
-use Rattle.mu_model_distributor.specs.DistState.{DistDurable}
-use Rattle.mu_model_distributor.specs.declared.DistPhase.TheVariants.{Idle}
-use Rattle.mu_model_distributor.specs.Runs.{state_after as dist_state_after}
 use Rattle.mu_model_distributor_laws.specs.Starts.{IsUnused}
-use Rattle.mu_model_fates.specs.Laws.{come_in}
-use Rattle.mu_model_offers.specs.Laws.{Run, IsRun, begin_of}
-use Rattle.mu_model_offers.specs.Packets.{packets_of}
 use Rattle.mu_model_packets.specs.Laws.{PacketFits}
-use Rattle.mu_model_script.specs.Ranges.{IsUnicast}
-use Rattle.mu_model_told.specs.Reached.{HappeningFits, sent_in}
-use Rattle.mu_model_updater.specs.Laws.{IsInRange}
-use Rattle.mu_model_updater.specs.Updater.{new_updater, updater_after, come_in as updater_come_in, sent_in as updater_sent_in}
 use Rattle.mu_model_world.specs.Judged.{owner_of}
 use Rattle.mu_model_world.specs.World.{Member, config_of, log_at}
 use Rattle.mu_model_mesh.specs.Mesh.{UpdaterMember, DistributorMember, Mesh, is_member, node_at, updater_at, distributor_at}
-use Rattle.mu_model_mesh_safety.proofs.Deeds.{AreIn}
-
--- what the bag has from an address was sent in its run
-abbrev pub SentBy : List Packet → ℕ → List Packet → Type 0
-SentBy bag address sent = AllByRecursion (λ (p : Packet). p.from ≡ address → Contains sent p) bag
-
--- ---- members
-
-pub record NodeRun (bag : List Packet) (address : ℕ) (n : Member) : Type 0 where
-  pub made : NodeDurable
-  pub hs : List Happening
-  pub sound : IsNodeDurable made
-  pub jobless : made.job ≡ None
-  pub metas : AllByRecursion (λ (image : Image). IsMeta image.meta) made.images
-  pub first : n.first ≡ made.images
-  -- none, or a group's address, so no node's
-  pub group : (n.group ≡ 0) ⊎ (0xC000 ≤ n.group)
-  pub state : n.state ≡ state_after (config_of address n) (restarted made) hs
-  pub fits : AllByRecursion HappeningFits hs
-  pub come : AreIn bag (come_in hs)
-  pub sent : SentBy bag address (sent_in (config_of address n) (restarted made) hs)
+use Rattle.mu_model_mesh_safety.specs.Runs.{NodeRun, UpdaterRun, DistributorRun, AreApart}
 
 -- its log is that of its run
 abbrev pub IsLogOf : (bag : List Packet) (address : ℕ) (n : Member) → NodeRun bag address n → (log : List LogEntry) → Type 0
 IsLogOf bag address n r log = log ≡ log_after (config_of address n) (restarted r.made) r.hs
-
-pub record UpdaterRun (bag : List Packet) (address : ℕ) (u : UpdaterMember) : Type 0 where
-  pub id : ℕ
-  pub plan : Plan
-  pub image : Image
-  pub to : List (ℕ × ℕ)
-  pub run : List (NodeEvent × ℕ)
-  pub from : plan.sending.from ≡ address
-  pub blob_id : plan.sending.id ≡ address * 2 ^ 48 + id
-  pub small : id < 2 ^ 48
-  pub range : IsInRange plan to
-  -- the first image of each receiver is updated
-  pub first : AllByRecursion (λ (receiver : ℕ × ℕ). receiver.1 ≡ 0) to
-  pub state : u.updater ≡ updater_after (new_updater plan image to) run
-  pub come : AreIn bag (updater_come_in run)
-  pub sent : SentBy bag address (updater_sent_in (new_updater plan image to) run)
-
--- as a distributor is made and stocked: nothing was distributed
-pub record IsIdle (d : DistDurable) : Type 0 where
-  pub phase : d.phase ≡ Idle
-  pub counter : d.counter ≡ 0
-  pub receivers : d.receivers ≡ []
-
-pub record DistributorRun (bag : List Packet) (address : ℕ) (d : DistributorMember) : Type 0 where
-  pub run : Run
-  pub own : run.address ≡ address
-  pub is : IsRun run
-  pub idle : IsIdle run.durable
-  pub state : d.state ≡ dist_state_after address (begin_of run) run.happenings
-  pub come : AreIn bag (come_in run.happenings)
-  pub sent : SentBy bag address (packets_of run)
 
 -- ---- packets
 
@@ -92,17 +27,6 @@ pub record IsPacket (m : Mesh) (p : Packet) : Type 0 where
   pub stranger : is_member m p.from ≡ false → (u : UpdateStart) → request_at p.payload ≡ Some (OfUpdate (StartUpdate u)) → is_member m (owner_of u.id) ≡ false
   -- and says octets
   pub octets : is_member m p.from ≡ false → (u : UpdateStart) → request_at p.payload ≡ Some (OfUpdate (StartUpdate u)) → AreOctets p.payload
-
--- ---- addresses
-
--- what stands at an address is of one kind
-pub record AreApart (m : Mesh) : Type 0 where
-  pub nodes : (address : ℕ) (n : Member) → node_at m address ≡ Some n → (is_member m address ≡ true) × (updater_at m address ≡ None) × (distributor_at m address ≡ None)
-  pub updaters : (address : ℕ) (u : UpdaterMember) → updater_at m address ≡ Some u → (is_member m address ≡ true) × (node_at m address ≡ None) × (distributor_at m address ≡ None)
-  pub distributors : (address : ℕ) (d : DistributorMember) → distributor_at m address ≡ Some d → (is_member m address ≡ true) × (node_at m address ≡ None) × (updater_at m address ≡ None)
-  pub unicast : (address : ℕ) → is_member m address ≡ true → IsUnicast address
-  -- each member is a node, an updater or a distributor
-  pub some : (address : ℕ) → is_member m address ≡ true → node_at m address ≡ None → updater_at m address ≡ None → distributor_at m address ≡ None → ⊥
 
 -- ---- THE INVARIANT
 

@@ -17,7 +17,8 @@ use Rattle.mu_model_world.specs.Judged.{owner_of}
 use Rattle.mu_model_mesh.specs.Mesh.{UpdaterMember, DistributorMember, Mesh, is_member, node_at, updater_at, distributor_at}
 use Rattle.mu_model_world.specs.World.{Member}
 use Rattle.mu_model_mesh_safety.specs.Facts.{IsStart, StartsAreOwn, StartsAreOfOneOffer, CountersAreAhead}
-use Rattle.mu_model_mesh_safety.proofs.Kept.{UpdaterRun, DistributorRun, Kept}
+use Rattle.mu_model_mesh_safety.specs.Runs.{UpdaterRun, DistributorRun}
+use Rattle.mu_model_mesh_safety.proofs.Kept.{Kept}
 use Rattle.mu_model_mesh_safety.proofs.Shown.{all_of, Starts}
 use Rattle.mu_model_mesh_safety.proofs.ShownLaws.{MemberLaws}
 use Rattle.mu_model_mesh_safety.proofs.ShownSafe.{same_end}

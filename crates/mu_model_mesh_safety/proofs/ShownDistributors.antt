@@ -22,8 +22,8 @@ use Rattle.mu_model_world.specs.Judged.{owner_of}
 use Rattle.mu_model_world.specs.World.{Member, config_of}
 use Rattle.mu_model_mesh.specs.Mesh.{DistributorMember, Mesh, node_at, distributor_at}
 use Rattle.mu_model_mesh_safety.specs.Safe.{RowIsSafe}
-use Rattle.mu_model_mesh_safety.proofs.Deeds.{AreIn}
-use Rattle.mu_model_mesh_safety.proofs.Kept.{NodeRun, DistributorRun, Kept}
+use Rattle.mu_model_mesh_safety.specs.Runs.{AreIn, NodeRun, DistributorRun}
+use Rattle.mu_model_mesh_safety.proofs.Kept.{Kept}
 use Rattle.mu_model_mesh_safety.proofs.Shown.{of_all, all_of, first_or, Starts}
 use Rattle.mu_model_mesh_safety.proofs.ShownLaws.{MemberLaws}
 use Rattle.mu_model_mesh_safety.proofs.ShownNodes.{log_of, state_of, OneOffer, MetasInRange, IsIndexOf, IsOfferOf, Cause, by_verdict, by_log, by_image, not_reported, row_safe}

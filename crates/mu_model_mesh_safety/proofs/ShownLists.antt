@@ -29,8 +29,9 @@ use Rattle.mu_model_updater.specs.Updater.{Updater, new_updater, updater_step, u
 use Rattle.mu_model_world.specs.World.{Member, Logged, log_at, logged_at}
 use Rattle.mu_model_mesh.specs.Mesh.{DistributorMember, Mesh, new_mesh, node_at, distributor_at}
 use Rattle.mu_model_mesh_safety.specs.Safe.{IsShown, ListsAreTrue}
-use Rattle.mu_model_mesh_safety.proofs.Deeds.{AreIn, SameNodes, SameAir, MoreAir, IsStill, NodeGoes, UpdaterGoes, DistributorGoes, Deed, still, says, node_goes, updater_goes, distributor_goes, adds_node, adds_updater, adds_distributor, stocks}
-use Rattle.mu_model_mesh_safety.proofs.Kept.{NodeRun, UpdaterRun, DistributorRun, IsPacket, Kept}
+use Rattle.mu_model_mesh_safety.specs.Runs.{AreIn, NodeRun, UpdaterRun, DistributorRun}
+use Rattle.mu_model_mesh_safety.proofs.Deeds.{SameNodes, SameAir, MoreAir, IsStill, NodeGoes, UpdaterGoes, DistributorGoes, Deed, still, says, node_goes, updater_goes, distributor_goes, adds_node, adds_updater, adds_distributor, stocks}
+use Rattle.mu_model_mesh_safety.proofs.Kept.{IsPacket, Kept}
 use Rattle.mu_model_mesh_safety.proofs.Shown.{of_all, all_of, shown_more}
 use Rattle.mu_model_mesh_safety.proofs.ShownDistributors.{both_of, are_both, are_new, AgreesWith, metas_in_range, owner_at, one_of, cause_of, present_id}
 use Rattle.mu_model_mesh_safety.proofs.ShownLaws.{MemberLaws}

@@ -17,7 +17,7 @@ use Rattle.mu_model_fates.specs.Laws.{ReachedWasTaken, AskedBefore, HasVersion, 
 use Rattle.mu_model_told.specs.Reached.{IdIsSafe}
 use Rattle.mu_model_world.specs.World.{Member, config_of}
 use Rattle.mu_model_mesh_safety.specs.Safe.{offered_in, IsShown, ruled, reached, applied, SaysHeld, IsHeldBy, RowIsSafe}
-use Rattle.mu_model_mesh_safety.proofs.Kept.{NodeRun}
+use Rattle.mu_model_mesh_safety.specs.Runs.{NodeRun}
 use Rattle.mu_model_mesh_safety.proofs.Shown.{of_all, Starts, offered_first, rest, head}
 
 -- ---- a node's run

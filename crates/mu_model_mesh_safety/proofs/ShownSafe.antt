@@ -16,7 +16,8 @@ use Rattle.mu_model_world.specs.World.{config_of, log_at}
 use Rattle.mu_model_mesh.specs.Mesh.{DistributorMember, Mesh}
 use Rattle.mu_model_mesh.specs.MeshOutcomes.{updater_transfer}
 use Rattle.mu_model_mesh_safety.specs.Safe.{RowIsSafe, RowIsSafeIn, ImagesAreSafeIn, DistributorsAreSafe, UpdatersAreSafe, IsSafe}
-use Rattle.mu_model_mesh_safety.proofs.Kept.{NodeRun, UpdaterRun, DistributorRun, Kept}
+use Rattle.mu_model_mesh_safety.specs.Runs.{NodeRun, UpdaterRun, DistributorRun}
+use Rattle.mu_model_mesh_safety.proofs.Kept.{Kept}
 use Rattle.mu_model_mesh_safety.proofs.Shown.{all_of}
 use Rattle.mu_model_mesh_safety.proofs.ShownDistributors.{row_of_node as distributor_row}
 use Rattle.mu_model_mesh_safety.proofs.ShownLaws.{MemberLaws}

@@ -19,7 +19,8 @@ use Rattle.mu_model_updater.specs.Updater.{new_updater, sent_in as updater_sent_
 use Rattle.mu_model_world.specs.Judged.{owner_of}
 use Rattle.mu_model_world.specs.World.{Member, config_of}
 use Rattle.mu_model_mesh.specs.Mesh.{UpdaterMember, DistributorMember, Mesh, is_member, node_at, updater_at, distributor_at}
-use Rattle.mu_model_mesh_safety.proofs.Kept.{NodeRun, UpdaterRun, DistributorRun, IsPacket, Kept}
+use Rattle.mu_model_mesh_safety.specs.Runs.{NodeRun, UpdaterRun, DistributorRun}
+use Rattle.mu_model_mesh_safety.proofs.Kept.{IsPacket, Kept}
 use Rattle.mu_model_mesh_safety.proofs.Shown.{of_all, Starts}
 use Rattle.mu_model_mesh_safety.proofs.ShownOctets.{OctetsOfferInRange}
 

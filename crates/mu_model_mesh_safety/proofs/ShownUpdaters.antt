@@ -18,7 +18,8 @@ use Rattle.mu_model_world.specs.Judged.{owner_of}
 use Rattle.mu_model_world.specs.World.{Member, config_of}
 use Rattle.mu_model_mesh.specs.Mesh.{UpdaterMember, Mesh, node_at, updater_at}
 use Rattle.mu_model_mesh_safety.specs.Safe.{RowIsSafe}
-use Rattle.mu_model_mesh_safety.proofs.Kept.{NodeRun, UpdaterRun, Kept}
+use Rattle.mu_model_mesh_safety.specs.Runs.{NodeRun, UpdaterRun}
+use Rattle.mu_model_mesh_safety.proofs.Kept.{Kept}
 use Rattle.mu_model_mesh_safety.proofs.Shown.{of_all, Starts}
 use Rattle.mu_model_mesh_safety.proofs.ShownDistributors.{comes_from, metas_in_range}
 use Rattle.mu_model_mesh_safety.proofs.ShownLaws.{MemberLaws}

@@ -1,5 +1,5 @@
 -- The transfers that the bag keeps with its packets.
-use Rattle.std.proofs.Common.{◌≡◌, ℕ, ◌<◌, ◌*◌, ◌^◌, ◌+◌, Bool, true, false, List, [], ◌∷◌, ◌++◌, map, Option, Some, None, is_some, nat_eq, refl, sym, ap, subst, ◌∙◌, ◌⊎◌}
+use Rattle.std.proofs.Common.{◌≡◌, ℕ, ◌<◌, ◌^◌, Bool, true, false, List, [], ◌∷◌, ◌++◌, map, Option, Some, None, is_some, nat_eq, refl, sym, ap, subst, ◌∙◌}
 use Rattle.std.specs.Prelude.{◌||◌}
 use Rattle.std.specs.List.{AllByRecursion}
 use Rattle.std.specs.Map.{lookup, set_value}
@@ -16,6 +16,7 @@ use Rattle.mu_model_world.specs.Judged.{owner_of}
 use Rattle.mu_model_world.specs.World.{config_of}
 use Rattle.mu_model_mesh.specs.Mesh.{UpdaterMember, DistributorMember, Mesh, new_mesh, is_member, updater_at, distributor_at}
 use Rattle.mu_model_mesh_safety.specs.Facts.{has_transfers, IsTransferOf, TransfersAreKept}
+use Rattle.mu_model_mesh_safety.specs.Runs.{UpdaterRun, DistributorRun}
 use Rattle.mu_model_mesh_safety.proofs.Deeds.{SameAir, MoreAir, Deed, still, says, node_goes, updater_goes, distributor_goes, adds_node, adds_updater, adds_distributor, stocks}
 use Rattle.mu_model_mesh_safety.proofs.KeepingDistributors.{distributor_sends_from}
 use Rattle.mu_model_mesh_safety.proofs.KeepingLists.{SamePlaces, changed_places, set_there}
@@ -23,7 +24,7 @@ use Rattle.mu_model_mesh_safety.proofs.KeepingPackets.{AllFrom}
 use Rattle.mu_model_mesh_safety.proofs.KeepingNodes.{node_sends_from}
 use Rattle.mu_model_mesh_safety.proofs.KeepingPackets.{distributor_happening_fits}
 use Rattle.mu_model_mesh_safety.proofs.KeepingUpdaters.{updater_sends_from}
-use Rattle.mu_model_mesh_safety.proofs.Kept.{UpdaterRun, DistributorRun, Kept}
+use Rattle.mu_model_mesh_safety.proofs.Kept.{Kept}
 use Rattle.mu_model_mesh_safety.proofs.ShownSafe.{same_end}
 use Rattle.mu_model_mesh_safety.proofs.ShownStarts.{owner_is}
 use Rattle.mu_model_mesh_safety.proofs.ShownUpdaters.{sending_stays}

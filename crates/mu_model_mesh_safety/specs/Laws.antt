@@ -9,11 +9,15 @@ use Rattle.mu_model_mesh.specs.Mesh.{DistributorMember, Mesh, new_mesh, node_at,
 use Rattle.mu_model_mesh.specs.MeshOutcomes.{of_nodes, dist_booted, mesh_begun}
 use Rattle.mu_model_mesh.specs.MeshRun.{MeshRun, Within}
 use Rattle.mu_model_mesh_safety.specs.Facts.{FactsHold}
+use Rattle.mu_model_mesh_safety.specs.Runs.{IsOfRuns}
 use Rattle.mu_model_mesh_safety.specs.Safe.{IsSafe, ListsAreTrue}
 
 -- what holds of each world of each script, whatever outcomes its tears have, and of each world within a line
 abbrev pub Always : (Mesh → Type 0) → Type 0
 Always Holds = (lines : List (List ℕ)) (text : List ℕ) (m mid : Mesh) → MeshRun new_mesh lines text m → Within m mid → Holds mid
+
+abbrev pub EveryWorldIsOfRuns : Type 0
+EveryWorldIsOfRuns = Always IsOfRuns
 
 abbrev pub EveryWorldIsSafe : Type 0
 EveryWorldIsSafe = Always IsSafe

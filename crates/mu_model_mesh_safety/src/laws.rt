@@ -1,9 +1,11 @@
 //! Laws over whole runs: functions that do nothing, whose contracts are proved.
 
-ghost use Rattle.mu_model_mesh_safety.specs.Laws.{EveryWorldIsSafe, EveryCutIsSafe, EveryListIsTrue, ListsStayTrue, EveryFactHolds};
+ghost use Rattle.mu_model_mesh_safety.specs.Laws.{EveryWorldIsOfRuns, EveryWorldIsSafe, EveryCutIsSafe, EveryListIsTrue, ListsStayTrue, EveryFactHolds};
 
 use mu_model_distributor_laws::laws::{runs_are_in_order, starts_are_in_order};
-use mu_model_fates::laws::{jobs_are_logged, took_was_offered, verified_is_held, versions_rise};
+use mu_model_fates::laws::{
+    jobs_are_logged, moments_are_the_greatest, took_was_offered, verified_is_held, versions_rise,
+};
 use mu_model_image::laws::{firmware_ids, images, made, metadata};
 use mu_model_listed::laws::lists_are_reached;
 use mu_model_offers::laws::{offers_agree, packets_say_starts};
@@ -38,6 +40,7 @@ pub fn every_world_is_safe()
     versions_rise();
     verified_is_held();
     took_was_offered();
+    moments_are_the_greatest();
     mu_model_client_laws::laws::plans_stay();
     starts_are_offered();
     mu_model_updater::laws::rows_are_told();
@@ -54,4 +57,22 @@ pub fn every_world_is_safe()
     distributors_send_fit();
     lists_are_reached();
     rows_are_reached();
+}
+
+/// In every world of every script, and within every line, each member has gone through a run of its own, in which only packets of the
+/// bag came to it; what the bag has from a member's address was sent in that run, and what it says is in the ranges of the grammar.
+pub fn every_world_is_of_runs()
+    ensures { EveryWorldIsOfRuns }
+{
+    images();
+    made();
+    mu_model_script::script_event_is_in_range();
+    moments_are_the_greatest();
+    starts_are_offered();
+    starts_are_in_order();
+    packets_say_starts();
+    octets_say_fit();
+    nodes_send_fit();
+    updaters_send_fit();
+    distributors_send_fit();
 }

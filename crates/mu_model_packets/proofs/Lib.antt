@@ -1,5 +1,8 @@
 pub mod Lists
 pub mod Tested
+pub mod Asked
+pub mod Packets
+pub mod Spelled
 pub mod Opcodes
 pub mod Nodes
 pub mod Requests

@@ -1,15 +1,7 @@
--- What holds of the elements of two lists holds of those of both joined, and back.
+-- What holds of the elements of two lists holds of those of both joined.
 use Rattle.std.proofs.Common.{List, [], ◌∷◌, ◌++◌}
 use Rattle.std.specs.List.{AllByRecursion}
 
 pub joined : {A : Type 0} (P : A → Type 0) (xs ys : List A) → AllByRecursion P xs → AllByRecursion P ys → AllByRecursion P (xs ++ ys)
 joined P [] ys h k = k
 joined P (x ∷ xs) ys h k = (h.0, joined P xs ys h.1 k)
-
-pub left_of : {A : Type 0} (P : A → Type 0) (xs ys : List A) → AllByRecursion P (xs ++ ys) → AllByRecursion P xs
-left_of P [] ys h = tt
-left_of P (x ∷ xs) ys h = (h.0, left_of P xs ys h.1)
-
-pub right_of : {A : Type 0} (P : A → Type 0) (xs ys : List A) → AllByRecursion P (xs ++ ys) → AllByRecursion P ys
-right_of P [] ys h = h
-right_of P (x ∷ xs) ys h = right_of P xs ys h.1

@@ -1,32 +1,29 @@
 -- Each packet of a node is an answer: whatever its numbers are, it is read as a status or a report of its kind, or as nothing.
-use Rattle.std.proofs.Common.{ℕ, true, false, List, [], ◌∷◌, map, refl, cond, Option, Some, None}
+use Rattle.std.proofs.Common.{◌≡◌, ℕ, true, false, List, [], ◌∷◌, map, refl, arith, cond, Option, Some, None}
 use Rattle.std.specs.List.{AllByRecursion}
+use Rattle.mu_model_wire.specs.Fields.{Message}
 use Rattle.mu_model_wire.specs.Packet.{Packet}
 use Rattle.mu_model_node.specs.declared.NodeConfig.{NodeConfig}
 use Rattle.mu_model_node.specs.BlobMessages.{BlobInformationStatus, TransferStatus, BlockStatus, PartialBlockReport}
 use Rattle.mu_model_node.specs.UpdateMessages.{InformationStatus, MetadataStatus, UpdateStatus}
-use Rattle.mu_model_node.specs.NodeMessages.{Request, request_at, Reply, ByUpdate, ByBlob, reply_octets, reply_packet}
+use Rattle.mu_model_node.specs.NodeMessages.{Request, request_at, Reply, ByUpdate, ByBlob, message_of, reply_octets, reply_packet}
 use Rattle.mu_model_node.specs.NodeState.{NodeState, is_addressee, update_phase}
 use Rattle.mu_model_node.specs.Events.{NodeEvent, PacketComes, TimeComes, on_request, on_packet, on_event, passed_over, at_moment}
 use Rattle.mu_model_node.specs.Safe.{Happening, Done, CutPower, Torn, happened}
 use Rattle.mu_model_node.specs.TimeTable.{on_time}
+use Rattle.mu_model_distributor.specs.Requests.{dist_request_of}
 use Rattle.mu_model_told.specs.Reached.{sent_by, sent_in}
 use Rattle.mu_model_packets.specs.Laws.{IsAnswer, NodesSendFit}
 use Rattle.mu_model_packets.proofs.Lists.{joined}
+use Rattle.mu_model_packets.proofs.Spelled.{IsShaped, spelling_opens}
 use Rattle.mu_model_packets.proofs.Opcodes.{Keeps, keeps_two, keeps_67, keeps_68, IsOther, IsReply, packet_answers}
 
 -- ---- opcodes of replies
 
 abbrev pub opcode_of : Reply → ℕ
-opcode_of (ByUpdate (InformationStatus count first ids)) = 0x8309
-opcode_of (ByUpdate (MetadataStatus status index)) = 0x830B
-opcode_of (ByUpdate (UpdateStatus status phase job)) = 0x8310
-opcode_of (ByBlob (BlobInformationStatus capacity)) = 0x8307
-opcode_of (ByBlob (TransferStatus status mode phase id parameters missing)) = 0x8303
-opcode_of (ByBlob (BlockStatus status block chunk_size report)) = 0x67
-opcode_of (ByBlob (PartialBlockReport chunks)) = 0x68
+opcode_of reply = (message_of reply).opcode
 
-pub reply_kept : (reply : Reply) → Keeps (opcode_of reply) (reply_octets reply)
+reply_kept : (reply : Reply) → Keeps (opcode_of reply) (reply_octets reply)
 reply_kept (ByUpdate (InformationStatus count first ids)) = keeps_two (reply_octets (ByUpdate (InformationStatus count first ids))) 0x09 _ refl
 reply_kept (ByUpdate (MetadataStatus status index)) = keeps_two (reply_octets (ByUpdate (MetadataStatus status index))) 0x0B _ refl
 reply_kept (ByUpdate (UpdateStatus status phase job)) = keeps_two (reply_octets (ByUpdate (UpdateStatus status phase job))) 0x10 _ refl
@@ -35,14 +32,26 @@ reply_kept (ByBlob (TransferStatus status mode phase id parameters missing)) = k
 reply_kept (ByBlob (BlockStatus status block chunk_size report)) = keeps_67 (reply_octets (ByBlob (BlockStatus status block chunk_size report))) _ refl
 reply_kept (ByBlob (PartialBlockReport chunks)) = keeps_68 (reply_octets (ByBlob (PartialBlockReport chunks))) _ refl
 
-pub reply_other : (reply : Reply) → IsOther (opcode_of reply)
-reply_other (ByUpdate (InformationStatus count first ids)) = record { numbers = λ m e. rw e tt; distribution = λ m e. rw e refl }
-reply_other (ByUpdate (MetadataStatus status index)) = record { numbers = λ m e. rw e tt; distribution = λ m e. rw e refl }
-reply_other (ByUpdate (UpdateStatus status phase job)) = record { numbers = λ m e. rw e tt; distribution = λ m e. rw e refl }
-reply_other (ByBlob (BlobInformationStatus capacity)) = record { numbers = λ m e. rw e tt; distribution = λ m e. rw e refl }
-reply_other (ByBlob (TransferStatus status mode phase id parameters missing)) = record { numbers = λ m e. rw e tt; distribution = λ m e. rw e refl }
-reply_other (ByBlob (BlockStatus status block chunk_size report)) = record { numbers = λ m e. rw e tt; distribution = λ m e. rw e refl }
-reply_other (ByBlob (PartialBlockReport chunks)) = record { numbers = λ m e. rw e tt; distribution = λ m e. rw e refl }
+reply_shaped : (reply : Reply) → IsShaped (message_of reply)
+reply_shaped (ByUpdate (InformationStatus count first ids)) = (omega arith, tt)
+reply_shaped (ByUpdate (MetadataStatus status index)) = (omega arith, tt)
+reply_shaped (ByUpdate (UpdateStatus status phase job)) = (omega arith, tt)
+reply_shaped (ByBlob (BlobInformationStatus capacity)) = (omega arith, tt)
+reply_shaped (ByBlob (TransferStatus status mode phase id parameters missing)) = (omega arith, tt)
+reply_shaped (ByBlob (BlockStatus status block chunk_size report)) = (omega arith, tt)
+reply_shaped (ByBlob (PartialBlockReport chunks)) = (omega arith, tt)
+
+no_distribution : (reply : Reply) (m : Message) → m.opcode ≡ opcode_of reply → dist_request_of m ≡ None
+no_distribution (ByUpdate (InformationStatus count first ids)) m e = rw e refl
+no_distribution (ByUpdate (MetadataStatus status index)) m e = rw e refl
+no_distribution (ByUpdate (UpdateStatus status phase job)) m e = rw e refl
+no_distribution (ByBlob (BlobInformationStatus capacity)) m e = rw e refl
+no_distribution (ByBlob (TransferStatus status mode phase id parameters missing)) m e = rw e refl
+no_distribution (ByBlob (BlockStatus status block chunk_size report)) m e = rw e refl
+no_distribution (ByBlob (PartialBlockReport chunks)) m e = rw e refl
+
+pub reply_other : (reply : Reply) → IsOther (opcode_of reply) (reply_octets reply)
+reply_other reply = record { keeps = reply_kept reply; opens = spelling_opens (message_of reply) (reply_shaped reply); distribution = no_distribution reply }
 
 reply_replies : (reply : Reply) → IsReply (opcode_of reply)
 reply_replies (ByUpdate (InformationStatus count first ids)) = record { request = λ m e. rw e refl; list = λ m e. rw e refl }
@@ -54,7 +63,7 @@ reply_replies (ByBlob (BlockStatus status block chunk_size report)) = record { r
 reply_replies (ByBlob (PartialBlockReport chunks)) = record { request = λ m e. rw e refl; list = λ m e. rw e refl }
 
 reply_answers : (from : ℕ) (reply : ℕ × Reply) → IsAnswer (reply_packet from reply)
-reply_answers from reply = packet_answers (opcode_of reply.1) (reply_packet from reply) (reply_other reply.1) (reply_replies reply.1) (reply_kept reply.1)
+reply_answers from reply = packet_answers (opcode_of reply.1) (reply_packet from reply) (reply_other reply.1) (reply_replies reply.1)
 
 -- ---- runs
 

@@ -13,17 +13,18 @@ use Rattle.mu_model_wire.specs.Packet.{Packet}
 use Rattle.mu_model_wire.specs.Reading.{◌>>=◌, Left, refuse, message_at, opcode_at, word_at, row_at, fields_at, fields_of}
 use Rattle.mu_model_wire.specs.Table.{rows}
 use Rattle.mu_model_node.specs.BlobMessages.{BlobRequest, blob_request_of}
-use Rattle.mu_model_node.specs.UpdateMessages.{UpdateRequest, update_request_of}
-use Rattle.mu_model_node.specs.NodeMessages.{either_request, request_of}
-use Rattle.mu_model_node.specs.Sound.{RequestFits, BlobRequestFits}
+use Rattle.mu_model_node.specs.NodeMessages.{request_of}
+use Rattle.mu_model_node.specs.Sound.{BlobRequestFits}
 use Rattle.mu_model_client.specs.Answers.{Answer, answer_of}
 use Rattle.mu_model_distributor.specs.Requests.{dist_request_of}
 use Rattle.mu_model_distributor.specs.DistMessages.{taken_as, taken_of}
 use Rattle.mu_model_distributor.specs.Sound.{AnswerFits, TakenFits}
 use Rattle.mu_model_distributor_laws.specs.Lists.{list_of}
-use Rattle.mu_model_told.specs.Laws.{AreUpdateNumbers, AreRequestNumbers}
+use Rattle.mu_model_client_laws.specs.Wire.{InRange}
 use Rattle.mu_model_packets.specs.Laws.{PacketFits, OffersNothing, IsAnswer}
-use Rattle.mu_model_packets.proofs.Tested.{IsTested, message_tested, blob_fits, answer_fits}
+use Rattle.mu_model_packets.proofs.Tested.{Opens, opening, IsTested, message_tested}
+use Rattle.mu_model_packets.proofs.Asked.{message_asks, blob_fits, answer_fits}
+use Rattle.mu_model_packets.proofs.Packets.{packet_says}
 
 -- ---- an opcode that is read is the message's
 
@@ -86,24 +87,15 @@ keeps_68 bytes body e = rw e (kept 0x68 _ _ (one_68 body))
 -- ---- what a message says is in range
 
 record MessageFits (m : Message) : Type 0 where
-  node : MatchOption (request_of m) (Unit {0}) RequestFits
-  numbers : MatchOption (request_of m) (Unit {0}) AreRequestNumbers
+  asks : MatchOption (request_of m) (Unit {0}) InRange
   distributor : MatchOption (taken_of m) (Unit {0}) TakenFits
 
--- no message of the opcode has numbers of an update, and none is a request of a distribution
-pub record IsOther (opcode : ℕ) : Type 0 where
-  pub numbers : (m : Message) → m.opcode ≡ opcode → MatchOption (update_request_of m) (Unit {0}) AreUpdateNumbers
+-- octets that are read as a message of this opcode, if at all; they begin as its opening does, and it is no request of a
+-- distribution
+pub record IsOther (opcode : ℕ) (bytes : List ℕ) : Type 0 where
+  pub keeps : Keeps opcode bytes
+  pub opens : Opens (opening opcode) bytes
   pub distribution : (m : Message) → m.opcode ≡ opcode → dist_request_of m ≡ None
-
-asked : (update : Option UpdateRequest) (blob : Option BlobRequest) → MatchOption blob (Unit {0}) BlobRequestFits → MatchOption (either_request update blob) (Unit {0}) RequestFits
-asked (Some request) blob h = tt
-asked None (Some request) h = h
-asked None None h = tt
-
-numbered : (update : Option UpdateRequest) (blob : Option BlobRequest) → MatchOption update (Unit {0}) AreUpdateNumbers → MatchOption (either_request update blob) (Unit {0}) AreRequestNumbers
-numbered (Some request) blob h = h
-numbered None (Some request) h = tt
-numbered None None h = tt
 
 took : (blob : Option BlobRequest) (answer : Option Answer) → MatchOption blob (Unit {0}) BlobRequestFits → MatchOption answer (Unit {0}) AnswerFits → MatchOption (taken_as None blob answer) (Unit {0}) TakenFits
 took (Some request) answer h k = h
@@ -113,23 +105,21 @@ took None None h k = tt
 taken_fits : (m : Message) → dist_request_of m ≡ None → IsTested m → MatchOption (taken_of m) (Unit {0}) TakenFits
 taken_fits m e h = rw e (took (blob_request_of m) (answer_of m) (blob_fits m h) (answer_fits m h))
 
-message_fits : (opcode : ℕ) (m : Message) → IsOther opcode → m.opcode ≡ opcode → IsTested m → MessageFits m
-message_fits opcode m other e h = record {
-  node = asked (update_request_of m) (blob_request_of m) (blob_fits m h);
-  numbers = numbered (update_request_of m) (blob_request_of m) (other.numbers m e);
-  distributor = taken_fits m (other.distribution m e) h;
-}
+message_fits : (opcode : ℕ) (bytes : List ℕ) (m : Message) → IsOther opcode bytes → message_at rows bytes ≡ Ok m → MessageFits m
+message_fits opcode bytes m other e =
+    let one : m.opcode ≡ opcode = other.keeps m e in
+    let tested = message_tested bytes m e (subst (λ (o : ℕ). Opens (opening o) bytes) (sym one) other.opens) in
+    record { asks = message_asks m tested; distributor = taken_fits m (other.distribution m one) tested }
 
 -- what is read of a packet says no more than its message
 by_message : (p : Packet) (r : Result Message Refusal) → message_at rows p.payload ≡ r → ((m : Message) → message_at rows p.payload ≡ Ok m → MessageFits m) → PacketFits p
 by_message p (Ok m) e h =
     let fits = h m e in
-    record { node = rw e fits.node; numbers = rw e fits.numbers; distributor = rw e fits.distributor }
-by_message p (Err d) e h = record { node = rw e tt; numbers = rw e tt; distributor = rw e tt }
+    packet_says p (rw e fits.asks) (rw e fits.distributor)
+by_message p (Err d) e h = packet_says p (rw e tt) (rw e tt)
 
-pub packet_fits : (opcode : ℕ) (p : Packet) → IsOther opcode → Keeps opcode p.payload → PacketFits p
-packet_fits opcode p other keeps =
-    by_message p (message_at rows p.payload) refl (λ m e. message_fits opcode m other (keeps m e) (message_tested p.payload m e))
+pub packet_fits : (opcode : ℕ) (p : Packet) → IsOther opcode p.payload → PacketFits p
+packet_fits opcode p other = by_message p (message_at rows p.payload) refl (λ m e. message_fits opcode p.payload m other e)
 
 -- ---- answers
 
@@ -145,8 +135,8 @@ offers_nothing opcode p (Ok m) e reply keeps =
     record { no_start = rw (e, none) (λ u h. cc); no_list = rw e no_list }
 offers_nothing opcode p (Err d) e reply keeps = record { no_start = rw e (λ u h. cc); no_list = rw e refl }
 
-pub packet_answers : (opcode : ℕ) (p : Packet) → IsOther opcode → IsReply opcode → Keeps opcode p.payload → IsAnswer p
-packet_answers opcode p other reply keeps = record {
-  fits = packet_fits opcode p other keeps;
-  offers_nothing = offers_nothing opcode p (message_at rows p.payload) refl reply keeps;
+pub packet_answers : (opcode : ℕ) (p : Packet) → IsOther opcode p.payload → IsReply opcode → IsAnswer p
+packet_answers opcode p other reply = record {
+  fits = packet_fits opcode p other;
+  offers_nothing = offers_nothing opcode p (message_at rows p.payload) refl reply other.keeps;
 }

@@ -8,8 +8,6 @@ use mu_model_client_laws::laws::requests_are_no_answers;
 pub fn octets_say_fit()
     ensures { OctetsSayFit }
 {
-    mu_model_node::laws::octets_ask_in_range();
-    mu_model_told::laws::octets_say_numbers();
     mu_model_distributor_laws::laws::octets_say_in_range();
 }
 
@@ -18,20 +16,16 @@ pub fn nodes_send_fit()
     ensures { NodesSendFit }
 {}
 
-/// What an updater sends is in the ranges of the grammar, where its plan is.
+/// What an updater sends is in the ranges of the grammar, whatever its plan is.
 pub fn updaters_send_fit()
     ensures { UpdatersSendFit }
 {
-    octets_say_fit();
     requests_are_no_answers();
-    mu_model_updater::laws::starts_are_offered();
 }
 
 /// What a distributor sends is in the ranges of the grammar.
 pub fn distributors_send_fit()
     ensures { DistributorsSendFit }
 {
-    octets_say_fit();
     requests_are_no_answers();
-    mu_model_offers::laws::offers_agree();
 }

@@ -11,6 +11,7 @@ lines_of c = record {
   lines = c.starts_are_offered.ensures.lines;
   range = c.script_event_is_in_range.ensures.range;
   octets = c.octets_say_fit.ensures;
+  greatest = c.moments_are_the_greatest.ensures.steps;
   nodes = c.nodes_send_fit.ensures;
   updaters = c.updaters_send_fit.ensures;
   distributors = c.distributors_send_fit.ensures;
