@@ -96,26 +96,26 @@ job_fits (Some j) h k = (h, k)
 node_fits : (a : ℕ) (n : w.Member) → settled.IsNode a n → NodeFits n.state
 node_fits a n h = record { sound = h.state; ranges = record { job = job_fits n.state.durable.job h.numbers h.messages; last = h.last } }
 
-updater_fits : Images → (line : UpdaterLine) (m : Mesh) → IsWorld m → CanSettle line m → (a : ℕ) (u : UpdaterMember) → updater_at m a ≡ Some u → (t : Bool) → nat_eq a line.address ≡ t
+updater_fits : Images → (line : UpdaterLine) (m : Mesh) → IsWorld m → IsLine line → CanSettle line m → (a : ℕ) (u : UpdaterMember) → updater_at m a ≡ Some u → (t : Bool) → nat_eq a line.address ≡ t
     → (is_ended u.updater.client.place ≡ true) ⊎ ClientFits u.updater.client u.updater.image.octets
-updater_fits images line m world can a u at true t =
+updater_fits images line m world range can a u at true t =
     let same : a ≡ line.address = eqb-true a line.address t in
     let own : updater_at m a ≡ Some (record { moment = can.moment; updater = updater_of line }) = subst (λ b. updater_at m b ≡ Some (record { moment = can.moment; updater = updater_of line })) (sym same) can.updater in
     let is : record { moment = can.moment; updater = updater_of line } ≡ u = cc in
-    inr (subst (λ (x : UpdaterMember). ClientFits x.updater.client x.updater.image.octets) is (begins_fit images line can.range))
-updater_fits images line m world can a u at false t =
+    inr (subst (λ (x : UpdaterMember). ClientFits x.updater.client x.updater.image.octets) is (begins_fit images line range))
+updater_fits images line m world range can a u at false t =
     inl (can.ended a u (λ e. true_false (sym (eq-eqb a line.address e) ∙ t)) at)
 
-member_fits : Images → (line : UpdaterLine) (m : Mesh) → IsWorld m → CanSettle line m → (a : ℕ) (n : Option w.Member) (u : Option UpdaterMember) → node_at m a ≡ n → updater_at m a ≡ u
+member_fits : Images → (line : UpdaterLine) (m : Mesh) → IsWorld m → IsLine line → CanSettle line m → (a : ℕ) (n : Option w.Member) (u : Option UpdaterMember) → node_at m a ≡ n → updater_at m a ≡ u
     → AllByRecursion MemberFits (members_by a n u)
-member_fits images line m world can a (Some n) u at up = (node_fits a n (world.nodes a n at), tt)
-member_fits images line m world can a None (Some u) at up = (((world.updaters a u up).0, updater_fits images line m world can a u up (nat_eq a line.address) refl), tt)
-member_fits images line m world can a None None at up = tt
+member_fits images line m world range can a (Some n) u at up = (node_fits a n (world.nodes a n at), tt)
+member_fits images line m world range can a None (Some u) at up = (((world.updaters a u up).0, updater_fits images line m world range can a u up (nat_eq a line.address) refl), tt)
+member_fits images line m world range can a None None at up = tt
 
-members_fit : Images → (line : UpdaterLine) (m : Mesh) → IsWorld m → CanSettle line m → (bs : List ℕ) → AllByRecursion MemberFits (flat_map (member_of m) bs)
-members_fit images line m world can [] = tt
-members_fit images line m world can (b ∷ bs) =
-    all_joined MemberFits (member_of m b) (flat_map (member_of m) bs) (member_fits images line m world can b (node_at m b) (updater_at m b) refl refl) (members_fit images line m world can bs)
+members_fit : Images → (line : UpdaterLine) (m : Mesh) → IsWorld m → IsLine line → CanSettle line m → (bs : List ℕ) → AllByRecursion MemberFits (flat_map (member_of m) bs)
+members_fit images line m world range can [] = tt
+members_fit images line m world range can (b ∷ bs) =
+    all_joined MemberFits (member_of m b) (flat_map (member_of m) bs) (member_fits images line m world range can b (node_at m b) (updater_at m b) refl refl) (members_fit images line m world range can bs)
 
 -- ---- requests go where no distributor is
 
@@ -140,41 +140,41 @@ group_alone_by m world g some other None e = refl
 group_alone_by m world g (inl none) other (Some d) e = absurd (true_false (sym (eq-eqb g 0 none) ∙ other))
 group_alone_by m world g (inr above) other (Some d) e = let below = (world.distributors g d e).0 in absurd (omega (arith, above, below))
 
-updater_aims : BeginsSound → (line : UpdaterLine) (m : Mesh) → IsWorld m → CanSettle line m → ClientAims (NoDistributorAt m) (updater_of line).client line.content
-updater_aims begins line m world can = record {
+updater_aims : BeginsSound → (line : UpdaterLine) (m : Mesh) → IsWorld m → IsLine line → CanSettle line m → ClientAims (NoDistributorAt m) (updater_of line).client line.content
+updater_aims begins line m world range can = record {
   addresses = receivers_alone line m world line.receivers can.takes;
-  group = λ other. group_alone_by m world line.group can.range.some_group other (distributor_at m line.group) refl;
+  group = λ other. group_alone_by m world line.group range.some_group other (distributor_at m line.group) refl;
   queue = tt;
   sound = begins.starts (plan_of line) (map first_image line.receivers);
 }
 
-aims_by : BeginsSound → (line : UpdaterLine) (m : Mesh) → IsWorld m → CanSettle line m → (a : ℕ) (u : UpdaterMember) → updater_at m a ≡ Some u → (t : Bool) → nat_eq a line.address ≡ t
+aims_by : BeginsSound → (line : UpdaterLine) (m : Mesh) → IsWorld m → IsLine line → CanSettle line m → (a : ℕ) (u : UpdaterMember) → updater_at m a ≡ Some u → (t : Bool) → nat_eq a line.address ≡ t
     → (is_ended u.updater.client.place ≡ true) ⊎ ClientAims (NoDistributorAt m) u.updater.client u.updater.image.octets
-aims_by begins line m world can a u at true t =
+aims_by begins line m world range can a u at true t =
     let same : a ≡ line.address = eqb-true a line.address t in
     let own : updater_at m a ≡ Some (record { moment = can.moment; updater = updater_of line }) = subst (λ b. updater_at m b ≡ Some (record { moment = can.moment; updater = updater_of line })) (sym same) can.updater in
     let is : record { moment = can.moment; updater = updater_of line } ≡ u = cc in
-    inr (subst (λ (x : UpdaterMember). ClientAims (NoDistributorAt m) x.updater.client x.updater.image.octets) is (updater_aims begins line m world can))
-aims_by begins line m world can a u at false t =
+    inr (subst (λ (x : UpdaterMember). ClientAims (NoDistributorAt m) x.updater.client x.updater.image.octets) is (updater_aims begins line m world range can))
+aims_by begins line m world range can a u at false t =
     inl (can.ended a u (λ e. true_false (sym (eq-eqb a line.address e) ∙ t)) at)
 
-member_aims : BeginsSound → (line : UpdaterLine) (m : Mesh) → IsWorld m → CanSettle line m → (a : ℕ) (n : Option w.Member) (u : Option UpdaterMember) → updater_at m a ≡ u → AllByRecursion (MemberAims (NoDistributorAt m)) (members_by a n u)
-member_aims begins line m world can a (Some n) u up = (tt, tt)
-member_aims begins line m world can a None (Some u) up = (aims_by begins line m world can a u up (nat_eq a line.address) refl, tt)
-member_aims begins line m world can a None None up = tt
+member_aims : BeginsSound → (line : UpdaterLine) (m : Mesh) → IsWorld m → IsLine line → CanSettle line m → (a : ℕ) (n : Option w.Member) (u : Option UpdaterMember) → updater_at m a ≡ u → AllByRecursion (MemberAims (NoDistributorAt m)) (members_by a n u)
+member_aims begins line m world range can a (Some n) u up = (tt, tt)
+member_aims begins line m world range can a None (Some u) up = (aims_by begins line m world range can a u up (nat_eq a line.address) refl, tt)
+member_aims begins line m world range can a None None up = tt
 
-members_aim : BeginsSound → (line : UpdaterLine) (m : Mesh) → IsWorld m → CanSettle line m → (bs : List ℕ) → AllByRecursion (MemberAims (NoDistributorAt m)) (flat_map (member_of m) bs)
-members_aim begins line m world can [] = tt
-members_aim begins line m world can (b ∷ bs) =
-    all_joined (MemberAims (NoDistributorAt m)) (member_of m b) (flat_map (member_of m) bs) (member_aims begins line m world can b (node_at m b) (updater_at m b) refl) (members_aim begins line m world can bs)
+members_aim : BeginsSound → (line : UpdaterLine) (m : Mesh) → IsWorld m → IsLine line → CanSettle line m → (bs : List ℕ) → AllByRecursion (MemberAims (NoDistributorAt m)) (flat_map (member_of m) bs)
+members_aim begins line m world range can [] = tt
+members_aim begins line m world range can (b ∷ bs) =
+    all_joined (MemberAims (NoDistributorAt m)) (member_of m b) (flat_map (member_of m) bs) (member_aims begins line m world range can b (node_at m b) (updater_at m b) refl) (members_aim begins line m world range can bs)
 
-pub here : Images → BeginsSound → (line : UpdaterLine) (m : Mesh) → IsWorld m → CanSettle line m → Here (NoDistributorAt m) (mesh_begun m) (members m)
-here images begins line m world can = record {
+pub here : Images → BeginsSound → (line : UpdaterLine) (m : Mesh) → IsWorld m → IsLine line → CanSettle line m → Here (NoDistributorAt m) (mesh_begun m) (members m)
+here images begins line m world range can = record {
   is = refl;
   stable = record { at_rest = can.at_rest; no_tear = can.no_tear };
   once = world.once;
-  fits = members_fit images line m world can m.order;
-  aims = members_aim begins line m world can m.order;
+  fits = members_fit images line m world range can m.order;
+  aims = members_aim begins line m world range can m.order;
   no_distributor = λ b d. d;
 }
 
@@ -223,8 +223,8 @@ all_take line m world (a ∷ to) h = (takes line m world a h.0, all_take line m 
 
 -- ---- the beginning
 
-can_begin : Images → (line : UpdaterLine) (to : List ℕ) → line.receivers ≡ to → (m : Mesh) → IsWorld m → CanSettle line m → CanBegin (plan_of line) line.content to (members m)
-can_begin images line to is m world can =
+can_begin : Images → (line : UpdaterLine) (to : List ℕ) → line.receivers ≡ to → (m : Mesh) → IsWorld m → IsLine line → CanSettle line m → CanBegin (plan_of line) line.content to (members m)
+can_begin images line to is m world range can =
     let nobody_there : node_at m line.address ≡ None = (world.updaters line.address (record { moment = can.moment; updater = updater_of line }) can.updater).1 in
     let own : Member = record { config = record { address = line.address; group = 0 }; moment = can.moment; part = IsUpdater (updater_of line).client line.content } in
     let found_there : at_address line.address (members m) ≡ Some own =
@@ -232,22 +232,22 @@ can_begin images line to is m world can =
     (ap (λ (x : Option w.Member). members_by line.address x (updater_at m line.address)) nobody_there ∙ ap (λ (x : Option UpdaterMember). members_by line.address None x) can.updater)
     refl can.member in
     record {
-      update = is_update images line can.range;
+      update = is_update images line range;
       config = record { address = line.address; group = 0 };
       moment = can.moment;
       from = refl;
       updater = found_there ∙ ap (λ (xs : List ℕ). Some (record { config = record { address = line.address; group = 0 }; moment = can.moment; part = IsUpdater (start (plan_of line) (map first_image xs)) line.content })) is;
       distinct = distinct m m.order world.once;
       quiet = all_quiet line m can m.order;
-      some = subst (λ (xs : List ℕ). 1 ≤ length xs) is can.range.some;
-      few = subst (λ (xs : List ℕ). length xs ≤ 128) is can.range.few;
-      none_twice = subst NoneTwice is can.range.none_twice;
+      some = subst (λ (xs : List ℕ). 1 ≤ length xs) is range.some;
+      few = subst (λ (xs : List ℕ). length xs ≤ 128) is range.few;
+      none_twice = subst NoneTwice is range.none_twice;
       takes = all_take line m world to (subst (λ (xs : List ℕ). AllByRecursion (settled.Takes line m) xs) is can.takes);
     }
 
-module _ (laws : AllLaws) (wire : Wire) (images : Images) (aim : Aiming) (line : UpdaterLine) (m next : Mesh) (text : List ℕ) (turns : ℕ) (world : IsWorld m) (can : CanSettle line m) (s : SettlesTo turns m text next) where
+module _ (laws : AllLaws) (wire : Wire) (images : Images) (aim : Aiming) (line : UpdaterLine) (m next : Mesh) (text : List ℕ) (turns : ℕ) (world : IsWorld m) (range : IsLine line) (can : CanSettle line m) (s : SettlesTo turns m text next) where
   came : members next ≡ settle turns (members m)
-  came = (settles laws wire (NoDistributorAt m) aim.laws turns (mesh_begun m) text next (members m) (here images aim.begins line m world can) s).is
+  came = (settles laws wire (NoDistributorAt m) aim.laws turns (mesh_begun m) text next (members m) (here images aim.begins line m world range can) s).is
 
   shows : (shown : List Row) → rows_at line.address (settle turns (members m)) ≡ Some shown → Rows line next shown
   shows shown r = rows_there line next shown (at_address line.address (members next)) refl (ap (λ (xs : List Member). rows_at line.address xs) came ∙ r)
@@ -259,34 +259,34 @@ module _ (laws : AllLaws) (wire : Wire) (images : Images) (aim : Aiming) (line :
 
 pub push_settles : AllLaws → Wire → Images → Aiming → PushCompletes → PushSettles
 unfolding can_begin
-push_settles laws wire images aim law line m next text turns world can mode enough s =
-    let done = law (plan_of line) line.content line.receivers (members m) (can_begin images line line.receivers refl m world can) mode turns enough in
-    let r = shows laws wire images aim line m next text turns world can s (map succeeded line.receivers) done.rows in
+push_settles laws wire images aim law line m next text turns world range can mode enough s =
+    let done = law (plan_of line) line.content line.receivers (members m) (can_begin images line line.receivers refl m world range can) mode turns enough in
+    let r = shows laws wire images aim line m next text turns world range can s (map succeeded line.receivers) done.rows in
     record { member = r.member; found = r.found; rows = r.rows }
 
 pub push_settles_no_sooner : AllLaws → Wire → Images → Aiming → PushTakesAll → PushSettlesNoSooner
 unfolding can_begin
-push_settles_no_sooner laws wire images aim law line m next text world can mode group few full s =
-    let rows = law (plan_of line) line.content line.receivers (members m) (can_begin images line line.receivers refl m world can) mode group few full in
-    let r = shows laws wire images aim line m next text (push_turns (plan_of line).sending (length line.receivers) - 1) world can s (map applying line.receivers) rows in
+push_settles_no_sooner laws wire images aim law line m next text world range can mode group few full s =
+    let rows = law (plan_of line) line.content line.receivers (members m) (can_begin images line line.receivers refl m world range can) mode group few full in
+    let r = shows laws wire images aim line m next text (push_turns (plan_of line).sending (length line.receivers) - 1) world range can s (map applying line.receivers) rows in
     record { member = r.member; found = r.found; rows = r.rows }
 
 pub push_drops_nobody : AllLaws → Wire → Images → Aiming → PushDropsNobody → PushSettleDropsNobody
 unfolding can_begin
-push_drops_nobody laws wire images aim law line m next text turns world can mode s =
-    nobody_dropped laws wire images aim line m next text turns world can s (law (plan_of line) line.content line.receivers (members m) (can_begin images line line.receivers refl m world can) mode turns)
+push_drops_nobody laws wire images aim law line m next text turns world range can mode s =
+    nobody_dropped laws wire images aim line m next text turns world range can s (law (plan_of line) line.content line.receivers (members m) (can_begin images line line.receivers refl m world range can) mode turns)
 
 -- ---- pull
 
 pub pull_settles : AllLaws → Wire → Images → Aiming → PullCompletes → PullSettles
 unfolding can_begin
-pull_settles laws wire images aim law line to m next text turns world can mode one enough s =
-    let done = law (plan_of line) line.content to (members m) (can_begin images line (to ∷ []) one m world can) mode turns enough in
-    let r = shows laws wire images aim line m next text turns world can s (map succeeded line.receivers) (done.rows ∙ ap (λ (xs : List ℕ). Some (map succeeded xs)) (sym one)) in
+pull_settles laws wire images aim law line to m next text turns world range can mode one enough s =
+    let done = law (plan_of line) line.content to (members m) (can_begin images line (to ∷ []) one m world range can) mode turns enough in
+    let r = shows laws wire images aim line m next text turns world range can s (map succeeded line.receivers) (done.rows ∙ ap (λ (xs : List ℕ). Some (map succeeded xs)) (sym one)) in
     record { member = r.member; found = r.found; rows = r.rows }
 
 pub pull_drops_nobody : AllLaws → Wire → Images → Aiming → PullDropsNobody → PullSettleDropsNobody
 unfolding can_begin
-pull_drops_nobody laws wire images aim law line to m next text turns world can mode one s =
-    nobody_dropped laws wire images aim line m next text turns world can s
-    (law (plan_of line) line.content to (members m) (can_begin images line (to ∷ []) one m world can) mode turns ∙ ap (λ (xs : List ℕ). Some (map (λ a. None) xs)) (sym one))
+pull_drops_nobody laws wire images aim law line to m next text turns world range can mode one s =
+    nobody_dropped laws wire images aim line m next text turns world range can s
+    (law (plan_of line) line.content to (members m) (can_begin images line (to ∷ []) one m world range can) mode turns ∙ ap (λ (xs : List ℕ). Some (map (λ a. None) xs)) (sym one))

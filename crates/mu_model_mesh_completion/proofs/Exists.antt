@@ -87,15 +87,15 @@ none_mapped : (f : Member → Member) (xs : List Member) → map f xs ≡ [] →
 none_mapped f [] h = refl
 none_mapped f (x ∷ xs) h = cc
 
-there_by : (m next : Mesh) (a b : ℕ) (step : Member → Moved) (t : Bool) → nat_eq a b ≡ t → Does m next a step → IsThere m b → IsThere next b
-there_by m next a b step true t d is gone none =
+there_by : (S : Packet → Type 0) (m next : Mesh) (a b : ℕ) (step : Member → Moved) (t : Bool) → nat_eq a b ≡ t → Does S m next a step → IsThere m b → IsThere next b
+there_by S m next a b step true t d is gone none =
     let same : a ≡ b = eqb-true a b t in
     let here : member_of m a ≡ [] = none_mapped (λ (x : Member). (step x).member) (member_of m a) (sym d.here ∙ (ap (member_of next) same ∙ gone)) in
     is (subst (λ c. member_of m c ≡ []) same here) (d.none_goes b none)
-there_by m next a b step false t d is gone none = is (sym (d.there b (λ e. true_false (sym (eq-eqb a b e) ∙ t))) ∙ gone) (d.none_goes b none)
+there_by S m next a b step false t d is gone none = is (sym (d.there b (λ e. true_false (sym (eq-eqb a b e) ∙ t))) ∙ gone) (d.none_goes b none)
 
-stays_there : (m next : Mesh) (a : ℕ) (step : Member → Moved) → Does m next a step → (b : ℕ) → IsThere m b → IsThere next b
-stays_there m next a step d b is = there_by m next a b step (nat_eq a b) refl d is
+stays_there : (S : Packet → Type 0) (m next : Mesh) (a : ℕ) (step : Member → Moved) → Does S m next a step → (b : ℕ) → IsThere m b → IsThere next b
+stays_there S m next a step d b is = there_by S m next a b step (nat_eq a b) refl d is
 
 pub all_there : (m next : Mesh) (bs : List ℕ) → ((b : ℕ) → IsThere m b → IsThere next b) → AllByRecursion (IsThere m) bs → AllByRecursion (IsThere next) bs
 all_there m next [] h k = tt
@@ -103,9 +103,9 @@ all_there m next (b ∷ bs) h k = (h b k.0, all_there m next bs h k.1)
 
 -- ---- one after the other
 
-module _ (step : Member → Moved) (comes : Mesh → ℕ → List MeshOutcome) (P : Member → Type 0) (Q R : Mesh → Type 0)
-    (law : (m : Mesh) (a : ℕ) (out : MeshOutcome) → Stable m → Q m → AllByRecursion P (member_of m a) → Contains (comes m a) out → Does m out.mesh a step)
-    (stays : (m next : Mesh) (a : ℕ) → Does m next a step → Q m → Q next) (test : ℕ → Bool)
+module _ (S : Packet → Type 0) (step : Member → Moved) (comes : Mesh → ℕ → List MeshOutcome) (P : Member → Type 0) (Q R : Mesh → Type 0)
+    (law : (m : Mesh) (a : ℕ) (out : MeshOutcome) → Stable m → Q m → AllByRecursion P (member_of m a) → Contains (comes m a) out → Does S m out.mesh a step)
+    (stays : (m next : Mesh) (a : ℕ) → Does S m next a step → Q m → Q next) (test : ℕ → Bool)
     (some : (m : Mesh) (a : ℕ) → Stable m → Q m → R m → IsThere m a → SomeOf (comes m a)) (more : (m : Mesh) (a : ℕ) (out : MeshOutcome) → Contains (comes m a) out → R m → R out.mesh) where
   abbrev Tried : Mesh → ℕ → Type 0
   Tried m a = IsTried P step (test a) (member_of m a)
@@ -133,13 +133,13 @@ module _ (step : Member → Moved) (comes : Mesh → ℕ → List MeshOutcome) (
   by_head true a bs m s q r ne here tried is are rest =
       let x = some m a s q r is in
       let d = law m a x.out s q here x.within in
-      let c = rest x.out.mesh d.stable (stays m x.out.mesh a d q) (more m a x.out x.within r) (tried_there m x.out.mesh a bs d.there ne tried) (all_there m x.out.mesh bs (stays_there m x.out.mesh a step d) are) in
+      let c = rest x.out.mesh d.stable (stays m x.out.mesh a d q) (more m a x.out x.within r) (tried_there m x.out.mesh a bs d.there ne tried) (all_there m x.out.mesh bs (stays_there S m x.out.mesh a step d) are) in
       record {
         text = x.out.text ++ c.text;
         next = c.next;
         each = (x.out.mesh, x.out.text, c.text, x.within, c.each, refl);
         reached = c.reached;
-        there = λ b h. c.there b (stays_there m x.out.mesh a step d b h);
+        there = λ b h. c.there b (stays_there S m x.out.mesh a step d b h);
       }
   by_head false a bs m s q r ne here tried is are rest =
       let c = rest m s q r tried are in

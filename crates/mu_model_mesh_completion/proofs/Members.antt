@@ -16,16 +16,19 @@ use Rattle.mu_model_client.specs.Due as d
 use Rattle.mu_model_client.specs.Due.{Due, due}
 use Rattle.mu_model_client_laws.specs.Laws.{KeepsPlan}
 use Rattle.mu_model_client_laws.specs.Wire.{InRange}
+use Rattle.mu_model_fates.specs.Moments.{RequestsKeepMoments, TimeKeepsMoments}
 use Rattle.mu_model_completion.specs.Turn.{Member, Part, IsNode, IsUpdater, Body, Asks, Replies, Sent, Moved, asked_by, replied_by, later, part_timed, timed, node_given, updater_given, part_given, is_for, given_if, given}
 use Rattle.mu_model_mesh_completion.proofs.Replies.{ReplyFits}
 use Rattle.mu_model_mesh_completion.proofs.Nodes.{Laws, NodeFits, Replied, request_fits, node_time_fits, moved}
 use Rattle.mu_model_mesh_completion.proofs.Asks.{Pieces, ClientFits, Asked, due_fits, told_fits}
-use Rattle.mu_model_mesh_completion.proofs.Moments.{request_keeps, time_keeps, due_keeps}
+use Rattle.mu_model_mesh_completion.proofs.Moments.{due_keeps}
 
 pub record AllLaws : Type 0 where
   pub nodes : Laws
   pub pieces : Pieces
   pub plans : KeepsPlan
+  pub request_moments : RequestsKeepMoments
+  pub time_moments : TimeKeepsMoments
 
 -- ---- members
 
@@ -117,7 +120,7 @@ module _ (laws : AllLaws) where
       let fit = node_time_fits laws.nodes t (moved s now h) in
       record {
         member = fit.next;
-        handed = rw (is, time_keeps t) (at_least s.moment now);
+        handed = rw (is, laws.time_moments t) (at_least s.moment now);
         sent = answers_fit _ (replies_answer x.config.address (on_time t (update_phase t)).replies fit.replies);
       }
 
@@ -141,7 +144,7 @@ module _ (laws : AllLaws) where
       let fit = request_fits laws.nodes t from request k (moved s x.moment h) in
       record {
         member = fit.next;
-        handed = rw (request_keeps t from request) (at_least s.moment x.moment);
+        handed = rw (laws.request_moments t from request) (at_least s.moment x.moment);
         sent = replies_answer x.config.address (on_request t from request).replies fit.replies;
       }
   node_packet x s from (Replies reply) is k h m = record { member = rw is h; handed = rw is m; sent = tt }

@@ -1,69 +1,119 @@
 -- The worked row.
-use Rattle.std.proofs.Common.{◌≡◌, ◌<◌, ℕ, zero, suc, nat_eq, Bool, true, false, [], ◌∷◌, refl, subst, cond, arith, Some, None, inl}
-use Rattle.std.specs.Prelude.{slice_index}
+use Rattle.std.proofs.Common.{◌≡◌, ◌*◌, ℕ, zero, suc, nat_eq, Bool, true, false, [], ◌∷◌, refl, sym, subst, cond, arith, Some, None, inl}
+use Rattle.std.specs.Prelude.{slice_get}
 use Rattle.std.proofs.lemmas.Bool.{eqb-true}
+use Rattle.mu_model_image.specs.Laws.{ImagesFit}
+use Rattle.mu_model_image.specs.Meta.{Image, image_of}
+use Rattle.mu_model_node.specs.FlashWork.{page_octets}
+use Rattle.mu_model_node.specs.Laws.{BootsAreSound}
+use Rattle.mu_model_node.specs.NodeState.{NodeDurable}
+use Rattle.mu_model_node.specs.Sound.{IsActiveImage, IsNodeDurable}
 use Rattle.mu_model_client.specs.Begin.{is_ended}
-use Rattle.mu_model_script.specs.Event.{Node, Updater}
 use Rattle.mu_model_script.specs.Tokens.{Hex}
-use Rattle.mu_model_script.specs.Ranges.{IsInRange}
-use Rattle.mu_model_world.specs.World as w
-use Rattle.mu_model_mesh.specs.Mesh.{UpdaterMember, new_mesh}
-use Rattle.mu_model_mesh_completion.specs.Worked.{scene, OneNode}
-use Rattle.mu_model_mesh_completion.proofs.Kept.{Kept}
-use Rattle.mu_model_mesh_completion.proofs.KeptLines.{LineLaws, line_fits, line_kept}
-use Rattle.mu_model_mesh_completion.proofs.KeptRuns.{world_of, new_kept}
+use Rattle.mu_model_updater.specs.Updater.{updater_of}
+use Rattle.mu_model_world.specs.World.{Member}
+use Rattle.mu_model_world.specs.Outcomes.{node_of, new_member}
+use Rattle.mu_model_mesh.specs.Mesh.{UpdaterMember, node_at}
+use Rattle.mu_model_mesh_completion.specs.Settled.{IsNode, IsLine, IsWorld}
+use Rattle.mu_model_mesh_completion.specs.Worked.{line, scene, OneNode}
 
-one_byte : (i : ℕ) → slice_index (0x61 ∷ []) i < 256
-one_byte zero = omega arith
-one_byte (suc i) = omega arith
+-- ---- the node
 
-three_bytes : (i : ℕ) → slice_index (0x61 ∷ 0x62 ∷ 0x63 ∷ []) i < 256
-three_bytes zero = omega arith
-three_bytes (suc zero) = omega arith
-three_bytes (suc (suc zero)) = omega arith
-three_bytes (suc (suc (suc i))) = omega arith
+abbrev made : NodeDurable
+made = node_of 1 1 (Hex (0x61 ∷ []))
 
-node_range : IsInRange (Node 2 0 1 1 (Hex (0x61 ∷ [])))
-node_range = ((omega arith, omega arith), inl refl, (omega arith, omega arith), (omega arith, omega arith), ((omega arith, omega arith), one_byte))
+active_image : ImagesFit → IsActiveImage (page_octets * 1) (image_of 1 (0x61 ∷ []))
+active_image fit = record { some = omega arith; room = omega arith; fit = fit 1 (0x61 ∷ []) }
 
-updater_range : IsInRange (Updater 1 0 7 5 0 1 12 200 2 (Hex (0x61 ∷ 0x62 ∷ 0x63 ∷ [])) (2 ∷ []))
-updater_range = record {
-  address_in = (omega arith, omega arith);
-  group_in = inl refl;
-  id_in = (omega arith, omega arith);
-  ttl_in = (omega arith, omega arith);
-  base_in = (omega arith, omega arith);
-  mode_in = (omega arith, omega arith);
-  log_in = (omega arith, omega arith);
-  chunk_in = (omega arith, omega arith);
-  version_in = (omega arith, omega arith);
-  content_in = ((omega arith, omega arith), three_bytes);
-  receivers_in = record { some = omega arith; few = omega arith; unicast = ((omega arith, omega arith), tt); different = refl };
+one_image : ImagesFit → (index : ℕ) (image : Image) → slice_get made.images index ≡ Some image → IsActiveImage (page_octets * 1) image
+one_image fit zero image e =
+    let same : image_of 1 (0x61 ∷ []) ≡ image = cc in
+    subst (λ x. IsActiveImage (page_octets * 1) x) same (active_image fit)
+one_image fit (suc index) image e = absurd cc
+
+made_sound : ImagesFit → IsNodeDurable made
+made_sound fit = record { capacity = (1, omega arith, omega arith, refl); some_image = omega arith; two_images = omega arith; images = one_image fit; job = tt }
+
+is_node : ImagesFit → BootsAreSound → IsNode 2 (new_member 0 made)
+is_node fit boots = record {
+  state = boots made (made_sound fit);
+  numbers = tt;
+  messages = tt;
+  last = tt;
+  handed = omega arith;
+  unicast = omega arith;
+  some_group = inl refl;
 }
 
-no_tear_by : (t : Bool) (x n : w.Member) → x.tear ≡ None → cond t (Some x) None ≡ Some n → n.tear ≡ None
-no_tear_by true x n h e = let is : x ≡ n = cc in subst (λ (y : w.Member). y.tear ≡ None) is h
+-- ---- the world
+
+node_by : (t : Bool) (a : ℕ) (x n : Member) → nat_eq a 2 ≡ t → IsNode 2 x → cond t (Some x) None ≡ Some n → IsNode a n
+node_by true a x n t k e =
+    let same : x ≡ n = cc in
+    subst (λ (y : Member). IsNode a y) same (subst (λ b. IsNode b x) (sym (eqb-true a 2 t)) k)
+node_by false a x n t k e = cc
+
+updater_by : (t : Bool) (a : ℕ) (x u : UpdaterMember) → nat_eq a 1 ≡ t → x.updater.client.sending.from ≡ 1 → cond t (Some x) None ≡ Some u → (u.updater.client.sending.from ≡ a) × (node_at scene a ≡ None)
+updater_by true a x u t k e =
+    let same : x ≡ u = cc in
+    let at : 1 ≡ a = sym (eqb-true a 1 t) in
+    (subst (λ (y : UpdaterMember). y.updater.client.sending.from ≡ a) same (subst (λ b. x.updater.client.sending.from ≡ b) at k), subst (λ b. node_at scene b ≡ None) at refl)
+updater_by false a x u t k e = cc
+
+world : ImagesFit → BootsAreSound → IsWorld scene
+world fit boots = record {
+  nodes = λ a n e. node_by (nat_eq a 2) a (new_member 0 made) n refl (is_node fit boots) e;
+  updaters = λ a u e. updater_by (nat_eq a 1) a (record { moment = 0; updater = updater_of line }) u refl refl e;
+  distributors = λ a d e. cc;
+  once = (((λ (e : 2 ≡ 1). omega (arith, e)), tt), (tt, tt));
+  there = ((λ n u d. cc), ((λ n u d. cc), tt));
+}
+
+-- ---- the line
+
+range : IsLine line
+range = record {
+  address = omega arith;
+  id = omega arith;
+  some_group = inl refl;
+  ttl = omega arith;
+  base = omega arith;
+  mode_least = omega arith;
+  mode_most = omega arith;
+  log_least = omega arith;
+  log_most = omega arith;
+  chunk_least = omega arith;
+  chunk_most = omega arith;
+  version = omega arith;
+  content_least = omega arith;
+  content_most = omega arith;
+  some = omega arith;
+  few = omega arith;
+  none_twice = (tt, tt);
+}
+
+-- ---- the row
+
+no_tear_by : (t : Bool) (x n : Member) → x.tear ≡ None → cond t (Some x) None ≡ Some n → n.tear ≡ None
+no_tear_by true x n h e = let is : x ≡ n = cc in subst (λ (y : Member). y.tear ≡ None) is h
 no_tear_by false x n h e = cc
 
 ended_by : (t : Bool) (a : ℕ) (x u : UpdaterMember) → nat_eq a 1 ≡ t → (a ≡ 1 → ⊥) → cond t (Some x) None ≡ Some u → is_ended u.updater.client.place ≡ true
 ended_by true a x u t ne e = absurd (ne (eqb-true a 1 t))
 ended_by false a x u t ne e = cc
 
-pub one_node : LineLaws → OneNode
-one_node laws =
-    let first = (line_kept laws new_mesh (Node 2 0 1 1 (Hex (0x61 ∷ []))) new_kept node_range refl tt).0 in
-    let second : Kept scene = (line_kept laws _ (Updater 1 0 7 5 0 1 12 200 2 (Hex (0x61 ∷ 0x62 ∷ 0x63 ∷ [])) (2 ∷ [])) first updater_range refl tt).0 in
-    record {
-      world = world_of scene second;
-      can = record {
-        range = line_fits laws 1 0 7 5 0 1 12 200 2 (Hex (0x61 ∷ 0x62 ∷ 0x63 ∷ [])) (2 ∷ []) updater_range;
-        member = refl;
-        moment = 0;
-        updater = refl;
-        takes = (record { member = refl; node = _; found = refl; idle = refl; active = _; others = []; images = refl; older = omega arith; room = omega arith; in_group = inl refl }, tt);
-        ended = λ a u ne e. ended_by (nat_eq a 1) a _ u refl ne e;
-        at_rest = λ a d e. cc;
-        no_tear = λ a n e. no_tear_by (nat_eq a 2) _ n refl e;
-      };
-      turns = refl;
-    }
+pub one_node : ImagesFit → BootsAreSound → OneNode
+one_node fit boots = record {
+  world = world fit boots;
+  range = range;
+  can = record {
+    member = refl;
+    moment = 0;
+    updater = refl;
+    takes = (record { member = refl; node = _; found = refl; idle = refl; active = _; others = []; images = refl; older = omega arith; room = omega arith; in_group = inl refl }, tt);
+    ended = λ a u ne e. ended_by (nat_eq a 1) a _ u refl ne e;
+    at_rest = λ a d e. cc;
+    no_tear = λ a n e. no_tear_by (nat_eq a 2) _ n refl e;
+  };
+  turns = refl;
+}

@@ -179,9 +179,9 @@ updater_went m address old u first step s nobody_there at =
 
 -- ---- a distributor at rest goes through a step
 
-pub record DistRan (m next : Mesh) : Type 0 where
+pub record DistRan (m next : Mesh) (sent : List Packet) : Type 0 where
   pub same : (b : ℕ) → member_of next b ≡ member_of m b
-  pub bag : next.nodes.bag ≡ m.nodes.bag ++ []
+  pub bag : next.nodes.bag ≡ m.nodes.bag ++ sent
   pub order : next.order ≡ m.order
   pub stable : Stable next
   pub none_comes : NoneComes m next
@@ -201,16 +201,16 @@ pub goes_by : {X : Type 0} (a b : ℕ) (t : Bool) → nat_eq a b ≡ t → (f g 
 goes_by a b true t f g new here there h = absurd (some_none (sym here ∙ (ap f (eqb-true a b t) ∙ h)))
 goes_by a b false t f g new here there h = sym (there b (λ is. true_false (sym (eq-eqb a b is) ∙ t))) ∙ h
 
-pub dist_went : (m : Mesh) (address : ℕ) (old d : DistributorMember) (first : List ℕ) (step : DistStep) → Stable m → distributor_at m address ≡ Some old → step.sent ≡ [] → IsAtRest (record d { state = step.next })
-    → DistRan m (dist_ran m address d first step).mesh
-dist_went m address old d first step s at quiet rest =
+pub dist_went : (m : Mesh) (address : ℕ) (old d : DistributorMember) (first : List ℕ) (step : DistStep) → Stable m → distributor_at m address ≡ Some old → IsAtRest (record d { state = step.next })
+    → DistRan m (dist_ran m address d first step).mesh step.sent
+dist_went m address old d first step s at rest =
     let next : Mesh = (dist_ran m address d first step).mesh in
     let new : DistributorMember = record d { state = step.next } in
     let here : distributor_at next address ≡ Some new = set_here address m.distributors old new at in
     let there : (c : ℕ) → (address ≡ c → ⊥) → distributor_at next c ≡ distributor_at m c = λ c ne. set_there address c m.distributors new ne in
     record {
       same = λ b. refl;
-      bag = ap (λ (ps : List Packet). m.nodes.bag ++ ps) quiet;
+      bag = refl;
       order = refl;
       stable = record { at_rest = λ b k h. rest_by m next address b new k (nat_eq address b) refl s rest here there h; no_tear = s.no_tear };
       none_comes = λ b h. there b (λ is. some_none (sym at ∙ (ap (λ c. distributor_at m c) is ∙ h))) ∙ h;

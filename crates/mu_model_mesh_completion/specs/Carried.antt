@@ -6,7 +6,7 @@ use Rattle.mu_model_updater.specs.Updater.{UpdaterLine}
 use Rattle.mu_model_mesh.specs.Mesh.{DistributorMember, Mesh, node_at, distributor_at}
 use Rattle.mu_model_mesh.specs.MeshOutcomes.{mesh_begun, given}
 use Rattle.mu_model_mesh.specs.Settle.{turn_comes, Settles}
-use Rattle.mu_model_mesh_completion.specs.Settled.{IsWorld, CanSettle}
+use Rattle.mu_model_mesh_completion.specs.Settled.{IsWorld, IsLine, CanSettle}
 
 -- the worlds that a `settle` goes through: after a time event of a turn, after a packet, and at the end of a turn
 pub data Passes (m : Mesh) : Mesh → Type 0 where
@@ -28,5 +28,5 @@ pub record IsCarried (turns : ℕ) (m : Mesh) : Type 0 where
 -- then a `settle` is carried through, where no flash is worn out on the way
 abbrev pub SettleIsCarried : Type 0
 SettleIsCarried =
-    (line : UpdaterLine) (m : Mesh) (turns : ℕ) → IsWorld m → CanSettle line m
+    (line : UpdaterLine) (m : Mesh) (turns : ℕ) → IsWorld m → IsLine line → CanSettle line m
     → ((mid : Mesh) → Passes (mesh_begun m) mid → IsUnworn mid) → IsCarried turns (mesh_begun m)

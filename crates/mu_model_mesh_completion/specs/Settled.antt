@@ -3,15 +3,12 @@ use Rattle.std.specs.Prelude.{ℕ, ◌≡◌, ◌<◌, ◌≤◌, ◌⊎◌, ◌
 use Rattle.std.specs.List.{AllByRecursion}
 use Rattle.mu_model_image.specs.Meta.{Image}
 use Rattle.mu_model_node.specs.declared.LastBlock.{LastBlock}
-use Rattle.mu_model_node.specs.declared.Link.TheVariants.{Cut}
 use Rattle.mu_model_node.specs.declared.Parameters.{Parameters}
-use Rattle.mu_model_node.specs.BlobTable.{is_pull}
 use Rattle.mu_model_node.specs.NodeState.{Job}
 use Rattle.mu_model_node.specs.Sound.{IsNodeState}
 use Rattle.mu_model_told.specs.Laws.{HasNumbers}
 use Rattle.mu_model_client.specs.Begin.{is_ended}
 use Rattle.mu_model_client.specs.Client.{rows}
-use Rattle.mu_model_distributor.specs.DistState.{UploadJob, job_of}
 use Rattle.mu_model_distributor.specs.DistTime.{has_turns}
 use Rattle.mu_model_updater.specs.Updater.{UpdaterLine, updater_of}
 use Rattle.mu_model_world.specs.World.{Member}
@@ -93,25 +90,14 @@ pub record Takes (line : UpdaterLine) (m : Mesh) (address : ℕ) : Type 0 where
   pub room : length line.content ≤ node.state.durable.capacity
   pub in_group : (line.group ≡ 0) ⊎ (node.group ≡ line.group)
 
--- an image that comes to a distributor doesn't come in pull mode
-abbrev pub IsPushed : Option Parameters → Type 0
-IsPushed None = Unit {0}
-IsPushed (Some p) = is_pull p ≡ false
-
-abbrev pub HasPushed : Option UploadJob → Type 0
-HasPushed None = Unit {0}
-HasPushed (Some j) = IsPushed j.transfer.parameters
-
--- a distributor is in phase 0, 2, 4, 5 or 7, no upload in pull mode is active, and no tear is to come
+-- a distributor is in phase 0, 2, 4, 5 or 7, and no tear is to come
 pub record IsAtRest (d : DistributorMember) : Type 0 where
   pub rests : has_turns d.state.durable.phase ≡ false
-  pub no_pull : (d.state.session.link ≡ Cut) ⊎ HasPushed (job_of d.state.durable.upload)
   pub no_tear : d.tear ≡ None
 
 -- the updater of a line has had no event, each receiver takes the update, the other updaters have ended, the distributors are at rest,
 -- and no tear is to come
 pub record CanSettle (line : UpdaterLine) (m : Mesh) : Type 0 where
-  pub range : IsLine line
   pub member : is_member m line.address ≡ true
   pub moment : ℕ
   pub updater : updater_at m line.address ≡ Some (record { moment = moment; updater = updater_of line })

@@ -6,7 +6,7 @@ use Rattle.mu_model_updater.specs.Updater.{UpdaterLine}
 use Rattle.mu_model_mesh.specs.Mesh.{Mesh, new_mesh}
 use Rattle.mu_model_mesh.specs.MeshWorked.{after}
 use Rattle.mu_model_completion.specs.Completion.{push_turns}
-use Rattle.mu_model_mesh_completion.specs.Settled.{IsWorld, CanSettle}
+use Rattle.mu_model_mesh_completion.specs.Settled.{IsWorld, IsLine, CanSettle}
 use Rattle.mu_model_mesh_completion.specs.Laws.{sending_of}
 
 -- `updater 0001 0000 7 5 0 push 12 200 2 hex:616263 0002`
@@ -35,5 +35,6 @@ scene = after new_mesh members
 -- a `settle` of ten turns completes it
 pub record OneNode : Type 0 where
   pub world : IsWorld scene
+  pub range : IsLine line
   pub can : CanSettle line scene
   pub turns : push_turns (sending_of line) 1 ≡ 10

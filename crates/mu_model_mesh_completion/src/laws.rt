@@ -9,10 +9,12 @@ use mu_model_client_laws::laws::{
     requests_are_read,
 };
 use mu_model_completion::laws::{nobody_is_dropped, pull_completes, push_completes};
+use mu_model_fates::laws::moments_are_the_greatest;
 use mu_model_image::laws::{blocks, chunks, images, made};
+use mu_model_mesh_safety::laws::every_world_is_of_runs;
 use mu_model_node::laws::{flash_work, states_are_sound, told_phase};
 use mu_model_script::script_event_is_in_range;
-use mu_model_wire::laws::{canonical_is_read, grammar_holds, reads_what_is_spelled};
+use mu_model_wire::laws::{canonical_is_read, grammar_holds};
 
 /// Where nothing is lost, a `settle` of so many turns completes the update of an updater that has had no event: in push seven turns
 /// for each sixteen receivers, and for each block two for each sixteen receivers and one for each sixteen chunks; in pull with one
@@ -41,38 +43,34 @@ pub fn settle_completes()
     images();
     states_are_sound();
     told_phase();
+    moments_are_the_greatest();
     grammar_holds();
     canonical_is_read();
 }
 
-/// Each world of each run of a script without distributors, whatever its lines and the outcomes of its tears are, is one that these
-/// laws ask for: its nodes are sound, an updater sends from its own address, no address stands twice, and each has a member. A worked
-/// row: a script of one updater and one node whose bank is one page, of which a `settle` of ten turns is asked for.
+/// Each world of each run of a script, whatever its lines and the outcomes of its tears are, is one that these laws ask for: its nodes
+/// are sound, an updater sends from its own address, no address stands twice, and each has a member. A worked row: a script of one
+/// updater and one node whose bank is one page, of which a `settle` of ten turns is asked for.
 pub fn worlds_of_scripts()
     ensures worlds { WorldsOfScripts }
     ensures one_node { OneNode }
 {
-    requests_are_read();
+    every_world_is_of_runs();
     plans_stay();
-    blocks();
-    chunks();
     images();
-    made();
     states_are_sound();
     flash_work();
     told_phase();
-    grammar_holds();
-    canonical_is_read();
-    reads_what_is_spelled();
-    script_event_is_in_range();
 }
 
-/// So in a script without distributors: a line `settle` of so many turns or more completes the update of an updater that has had no
-/// event, where its receivers take it, every other updater has ended and no tear is to come.
+/// So in a script: a line `settle` of so many turns or more completes the update of an updater that has had no event, where its
+/// receivers take it, every other updater has ended, every distributor is at rest and no tear is to come.
 pub fn scripts_complete()
     ensures push { PushScriptsComplete }
     ensures pull { PullScriptsComplete }
 {
     settle_completes();
     worlds_of_scripts();
+    script_event_is_in_range();
+    made();
 }

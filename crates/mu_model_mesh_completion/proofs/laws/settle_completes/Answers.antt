@@ -21,6 +21,8 @@ returns c =
         chunk_long = c.chunks.ensures.length;
       };
       plans = c.plans_stay.ensures;
+      request_moments = c.moments_are_the_greatest.ensures.requests;
+      time_moments = c.moments_are_the_greatest.ensures.time;
     } in
     let wire : Wire = record {
       grammar = c.grammar_holds.ensures;
