@@ -4,3 +4,4 @@ pub mod MeshJudged
 pub mod Settle
 pub mod MeshRun
 pub mod MeshWorked
+pub mod Alike

@@ -1,0 +1,3 @@
+pub mod AlikeRead
+pub mod AlikeEvents
+pub mod AlikeRuns
