@@ -1,5 +1,5 @@
 -- The worked row.
-use Rattle.std.proofs.Common.{◌≡◌, ◌*◌, ℕ, zero, suc, nat_eq, Bool, true, false, [], ◌∷◌, refl, sym, subst, cond, arith, Some, None, inl}
+use Rattle.std.proofs.Common.{◌≡◌, ◌*◌, ◌<◌, ℕ, zero, suc, nat_eq, Bool, true, false, [], ◌∷◌, refl, sym, subst, cond, arith, Some, None, inl}
 use Rattle.std.specs.Prelude.{slice_get}
 use Rattle.std.proofs.lemmas.Bool.{eqb-true}
 use Rattle.mu_model_image.specs.Laws.{ImagesFit}
@@ -13,8 +13,8 @@ use Rattle.mu_model_script.specs.Tokens.{Hex}
 use Rattle.mu_model_updater.specs.Updater.{updater_of}
 use Rattle.mu_model_world.specs.World.{Member}
 use Rattle.mu_model_world.specs.Outcomes.{node_of, new_member}
-use Rattle.mu_model_mesh.specs.Mesh.{UpdaterMember, node_at}
-use Rattle.mu_model_mesh_completion.specs.Settled.{IsNode, IsLine, IsWorld}
+use Rattle.mu_model_mesh.specs.Mesh.{UpdaterMember, DistributorMember, node_at}
+use Rattle.mu_model_mesh_completion.specs.Settled.{IsNode, IsLine, IsWorld, IsAtRest}
 use Rattle.mu_model_mesh_completion.specs.Worked.{line, scene, OneNode}
 
 -- ---- the node
@@ -60,13 +60,19 @@ updater_by true a x u t k e =
     (subst (λ (y : UpdaterMember). y.updater.client.sending.from ≡ a) same (subst (λ b. x.updater.client.sending.from ≡ b) at k), subst (λ b. node_at scene b ≡ None) at refl)
 updater_by false a x u t k e = cc
 
+distributor_by : (t : Bool) (a : ℕ) (x d : DistributorMember) → nat_eq a 3 ≡ t → cond t (Some x) None ≡ Some d → (a < 0x8000) × (node_at scene a ≡ None)
+distributor_by true a x d t e =
+    let at : a ≡ 3 = eqb-true a 3 t in
+    (omega (arith, at), subst (λ b. node_at scene b ≡ None) (sym at) refl)
+distributor_by false a x d t e = cc
+
 world : ImagesFit → BootsAreSound → IsWorld scene
 world fit boots = record {
   nodes = λ a n e. node_by (nat_eq a 2) a (new_member 0 made) n refl (is_node fit boots) e;
   updaters = λ a u e. updater_by (nat_eq a 1) a (record { moment = 0; updater = updater_of line }) u refl refl e;
-  distributors = λ a d e. cc;
-  once = (((λ (e : 2 ≡ 1). omega (arith, e)), tt), (tt, tt));
-  there = ((λ n u d. cc), ((λ n u d. cc), tt));
+  distributors = λ a d e. distributor_by (nat_eq a 3) a _ d refl e;
+  once = (((λ (e : 2 ≡ 1). omega (arith, e)), ((λ (e : 2 ≡ 3). omega (arith, e)), tt)), (((λ (e : 1 ≡ 3). omega (arith, e)), tt), (tt, tt)));
+  there = ((λ n u d. cc), ((λ n u d. cc), ((λ n u d. cc), tt)));
 }
 
 -- ---- the line
@@ -102,6 +108,10 @@ ended_by : (t : Bool) (a : ℕ) (x u : UpdaterMember) → nat_eq a 1 ≡ t → (
 ended_by true a x u t ne e = absurd (ne (eqb-true a 1 t))
 ended_by false a x u t ne e = cc
 
+rest_by : (t : Bool) (x d : DistributorMember) → IsAtRest x → cond t (Some x) None ≡ Some d → IsAtRest d
+rest_by true x d h e = let is : x ≡ d = cc in subst IsAtRest is h
+rest_by false x d h e = cc
+
 pub one_node : ImagesFit → BootsAreSound → OneNode
 one_node fit boots = record {
   world = world fit boots;
@@ -112,7 +122,7 @@ one_node fit boots = record {
     updater = refl;
     takes = (record { member = refl; node = _; found = refl; idle = refl; active = _; others = []; images = refl; older = omega arith; room = omega arith; in_group = inl refl }, tt);
     ended = λ a u ne e. ended_by (nat_eq a 1) a _ u refl ne e;
-    at_rest = λ a d e. cc;
+    at_rest = λ a d e. rest_by (nat_eq a 3) _ d (record { rests = refl; no_tear = refl }) e;
     no_tear = λ a n e. no_tear_by (nat_eq a 2) _ n refl e;
   };
   turns = refl;

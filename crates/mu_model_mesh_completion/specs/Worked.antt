@@ -1,6 +1,6 @@
--- Worked row: a script with one updater and one node whose bank is one page.
+-- Worked row: a script with one updater, one node whose bank is one page, and a distributor.
 use Rattle.std.specs.Prelude.{◌≡◌, List, [], ◌∷◌}
-use Rattle.mu_model_script.specs.Event.{Event, Node, Updater}
+use Rattle.mu_model_script.specs.Event.{Event, Node, Updater, Distributor}
 use Rattle.mu_model_script.specs.Tokens.{Hex}
 use Rattle.mu_model_updater.specs.Updater.{UpdaterLine}
 use Rattle.mu_model_mesh.specs.Mesh.{Mesh, new_mesh}
@@ -25,9 +25,9 @@ line = record {
   receivers = 2 ∷ [];
 }
 
--- and `node 0002 0000 1 1 hex:61` before it
+-- `node 0002 0000 1 1 hex:61` before it, and `distributor 0003 1` after it
 abbrev pub members : List Event
-members = Node 2 0 1 1 (Hex (0x61 ∷ [])) ∷ Updater 1 0 7 5 0 1 12 200 2 (Hex (0x61 ∷ 0x62 ∷ 0x63 ∷ [])) (2 ∷ []) ∷ []
+members = Node 2 0 1 1 (Hex (0x61 ∷ [])) ∷ Updater 1 0 7 5 0 1 12 200 2 (Hex (0x61 ∷ 0x62 ∷ 0x63 ∷ [])) (2 ∷ []) ∷ Distributor 3 1 ∷ []
 
 abbrev pub scene : Mesh
 scene = after new_mesh members

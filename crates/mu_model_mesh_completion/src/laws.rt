@@ -50,7 +50,7 @@ pub fn settle_completes()
 
 /// Each world of each run of a script, whatever its lines and the outcomes of its tears are, is one that these laws ask for: its nodes
 /// are sound, an updater sends from its own address, no address stands twice, and each has a member. A worked row: a script of one
-/// updater and one node whose bank is one page, of which a `settle` of ten turns is asked for.
+/// updater, one node whose bank is one page, and a distributor, of which a `settle` of ten turns is asked for.
 pub fn worlds_of_scripts()
     ensures worlds { WorldsOfScripts }
     ensures one_node { OneNode }
