@@ -1,0 +1,15 @@
+pub mod BlobPart
+pub mod Images
+pub mod NodeNote
+pub mod DistributorNote
+pub mod RepresentsNode
+pub mod RepresentsDistributor
+pub mod StoreStates
+pub mod Numbers
+pub mod Written
+pub mod WorkedNode
+pub mod WorkedDistributor
+pub mod Short
+pub mod Blocks
+pub mod Boots
+pub mod Laws
