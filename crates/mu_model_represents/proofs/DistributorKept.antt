@@ -15,7 +15,8 @@ use Rattle.mu_model_represents.specs.Images.{IsSealed, is_among, AllDiffer, HasI
 use Rattle.mu_model_represents.specs.DistributorNote.{UploadActive, SpellsDistributor, distributor_octets}
 use Rattle.mu_model_represents.specs.Numbers.{HasUploadMtu, HasDistributorNumbers}
 use Rattle.mu_model_represents.specs.RepresentsDistributor.{HasUploadOf, UploadGoesWith, HasStored, upload_job_in, upload_by, part_of_upload, phase_of_upload, bank_of, note_of_distributor, distributor_tag, IsDistributorOf}
-use Rattle.mu_model_represents.specs.Written.{IsTag, KeepsUpload, KeepsUploads, KeepsDistributor}
+use Rattle.mu_model_record.specs.ChangeLaws.{IsTag}
+use Rattle.mu_model_represents.specs.Written.{KeepsUpload, KeepsUploads, KeepsDistributor}
 use Rattle.mu_model_represents.proofs.BlobWritten.{part_written, length_part, part_octets}
 use Rattle.mu_model_represents.proofs.DistributorWritten.{FitSettings, FitsRow, FitsDistributor, distributor_written, length_distributor, octets_distributor}
 use Rattle.mu_model_represents.proofs.NodeWritten.{blob_of_tag, note_of_tag, tag_of, fit_parameters, has_sealed}

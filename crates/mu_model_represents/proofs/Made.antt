@@ -13,7 +13,7 @@ use Rattle.mu_model_represents.specs.BlobPart.{NoneFilling}
 use Rattle.mu_model_represents.specs.Images.{IsSealed, HasImage}
 use Rattle.mu_model_represents.specs.StoreStates.{ContentOf, IsStoreState}
 use Rattle.mu_model_represents.specs.Numbers.{IsCount}
-use Rattle.mu_model_represents.specs.Written.{IsTag}
+use Rattle.mu_model_record.specs.ChangeLaws.{IsTag}
 use Rattle.mu_model_represents.proofs.StoreLemmas.{IsGoodImage}
 
 abbrev pub entry_by : BankState → Option Image → Bool → BankState

@@ -18,7 +18,8 @@ use Rattle.mu_model_represents.specs.Images.{IsSealed, HasImage}
 use Rattle.mu_model_represents.specs.NodeNote.{IsNodeNote, index_of, first_of, note_octets, old_note_octets}
 use Rattle.mu_model_represents.specs.Numbers.{HasMtu, HasNumbersOf, HasNodeNumbers}
 use Rattle.mu_model_represents.specs.RepresentsNode.{IsNodeOf, IsNewerThan, IsNewerThanBank, HasNodeJob, job_by, part_of_node, note_jobs, note_of_node, node_tag, old_node_tag}
-use Rattle.mu_model_represents.specs.Written.{KeepsJobs, KeepsNode, IsTag}
+use Rattle.mu_model_record.specs.ChangeLaws.{IsTag}
+use Rattle.mu_model_represents.specs.Written.{KeepsJobs, KeepsNode}
 use Rattle.mu_model_represents.proofs.Octets.{octets_append, part_whole, part_past, part_all}
 use Rattle.mu_model_represents.proofs.StoreLemmas.{bank_there}
 use Rattle.mu_model_represents.proofs.NodeSound.{as_many}

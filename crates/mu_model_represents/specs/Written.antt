@@ -4,6 +4,7 @@ use Rattle.std.specs.List.{AllByRecursion, AllZip}
 use Rattle.mu_model_flash.specs.Bits.{AreOctets}
 use Rattle.mu_model_record.specs.Record.{IsRecord, entry_of, capacity_of}
 use Rattle.mu_model_record.specs.Store.{StoreState, content_of_bank}
+use Rattle.mu_model_record.specs.ChangeLaws.{IsTag}
 use Rattle.mu_model_node.specs.NodeState.{Job, NodeDurable}
 use Rattle.mu_model_node.specs.Sound.{IsNodeDurable}
 use Rattle.mu_model_distributor.specs.DistState.{StoredImage, UploadJob, DistDurable, job_of}
@@ -14,10 +15,6 @@ use Rattle.mu_model_represents.specs.Images.{IsSealed, is_among, AllDiffer, HasI
 use Rattle.mu_model_represents.specs.Numbers.{HasNodeNumbers, HasDistributorNumbers}
 use Rattle.mu_model_represents.specs.RepresentsNode.{StoredGoesWith, IsNodeOf, part_of_node, note_of_node, node_tag, old_node_tag}
 use Rattle.mu_model_represents.specs.RepresentsDistributor.{UploadBank, IsDistributorOf, part_of_upload, note_of_distributor, distributor_tag}
-
--- the tag that is written has its length, and is octets
-abbrev pub IsTag : List ℕ → Type 0
-IsTag tag = (length tag ≡ 1792) × AreOctets tag
 
 -- ---- the BLOB part, before any note
 
