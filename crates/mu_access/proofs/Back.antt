@@ -1,12 +1,13 @@
--- The message in memory that a plain message is the view of.
-use Rattle.std.proofs.Common.{◌≡◌, leb, cond, true, false, refl, sym, ap, ◌∙◌}
+-- A plain message tells by its opcode of which model it is, and so all of the message in memory.
+use Rattle.std.proofs.Common.{◌≡◌, ℕ, leb, true, false, refl, sym, ap, ◌∙◌}
+use Rattle.std.proofs.lemmas.Bool.{false≢true}
 use Rattle.mu_model_wire.specs.Fields.{Message as PlainMessage}
 use Rattle.mu_blobmsg.specs.View.{view as blob_view}
 use Rattle.mu_updmsg.specs.View.{view as update_view}
 use Rattle.mu_distmsg.specs.View.{view as distribution_view}
-use Rattle.mu_blobmsg.proofs.Back.{back as blob_back, back_view as blob_back_view}
-use Rattle.mu_updmsg.proofs.Back.{back as update_back, back_view as update_back_view}
-use Rattle.mu_distmsg.proofs.Back.{back as distribution_back, back_view as distribution_back_view}
+use Rattle.mu_blobmsg.specs.Laws.{ViewTellsAll as BlobViewTellsAll}
+use Rattle.mu_updmsg.specs.Laws.{ViewTellsAll as UpdateViewTellsAll}
+use Rattle.mu_distmsg.specs.Laws.{ViewTellsAll as DistributionViewTellsAll}
 use Rattle.mu_access.specs.View.{view, IsEven}
 use Rattle.mu_access.specs.Laws.{content}
 use Rattle.mu_access.specs.declared.message.Message.{Message}
@@ -67,13 +68,16 @@ distribution_high (FirmwareDelete f) = (refl, refl)
 distribution_high FirmwareDeleteAll = (refl, refl)
 distribution_high (FirmwareStatus s c i f) = (refl, refl)
 
-abbrev back : PlainMessage → Message
-back m = cond (leb m.opcode 0x8307) (Blob (blob_back m)) (cond (leb m.opcode 0x8310) (Upd (update_back m)) (Dist (distribution_back m)))
+apart : (m n : PlainMessage) (most : ℕ) → m ≡ n → leb m.opcode most ≡ true → leb n.opcode most ≡ false → ⊥
+apart m n most same low high = false≢true (sym high ∙ ap (λ (p : PlainMessage). leb p.opcode most) (sym same) ∙ low)
 
-back_view : (m : Message) → IsEven m → back (view m) ≡ content m
-back_view (Blob m) even = rw (blob_low m) (ap Blob (blob_back_view m))
-back_view (Upd m) even = let is = update_low m in rw (is.0, is.1) (ap Upd (update_back_view m))
-back_view (Dist m) even = let is = distribution_high m in rw (is.0, is.1) (ap Dist (distribution_back_view m even))
-
-pub tells_all : (m n : Message) → IsEven m → IsEven n → view m ≡ view n → content m ≡ content n
-tells_all m n even evener same = sym (back_view m even) ∙ ap back same ∙ back_view n evener
+pub tells_all : BlobViewTellsAll → UpdateViewTellsAll → DistributionViewTellsAll → (m n : Message) → IsEven m → IsEven n → view m ≡ view n → content m ≡ content n
+tells_all blob update distribution (Blob m) (Blob n) even evener same = ap Blob (blob m n same)
+tells_all blob update distribution (Upd m) (Upd n) even evener same = ap Upd (update m n same)
+tells_all blob update distribution (Dist m) (Dist n) even evener same = ap Dist (distribution m n even evener same)
+tells_all blob update distribution (Blob m) (Upd n) even evener same = absurd (apart (blob_view m) (update_view n) 0x8307 same (blob_low m) (update_low n).0)
+tells_all blob update distribution (Blob m) (Dist n) even evener same = absurd (apart (blob_view m) (distribution_view n) 0x8307 same (blob_low m) (distribution_high n).0)
+tells_all blob update distribution (Upd m) (Blob n) even evener same = absurd (apart (blob_view n) (update_view m) 0x8307 (sym same) (blob_low n) (update_low m).0)
+tells_all blob update distribution (Upd m) (Dist n) even evener same = absurd (apart (update_view m) (distribution_view n) 0x8310 same (update_low m).1 (distribution_high n).1)
+tells_all blob update distribution (Dist m) (Blob n) even evener same = absurd (apart (blob_view n) (distribution_view m) 0x8307 (sym same) (blob_low n) (distribution_high m).0)
+tells_all blob update distribution (Dist m) (Upd n) even evener same = absurd (apart (update_view n) (distribution_view m) 0x8310 (sym same) (update_low n).1 (distribution_high m).1)

@@ -5,4 +5,8 @@ ghost use Rattle.mu_access.specs.Laws.{ViewTellsAll};
 /// octets.
 pub fn view_tells_all()
     ensures { ViewTellsAll }
-{}
+{
+    mu_blobmsg::laws::view_tells_all();
+    mu_updmsg::laws::view_tells_all();
+    mu_distmsg::laws::view_tells_all();
+}

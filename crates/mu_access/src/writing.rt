@@ -6,6 +6,7 @@ ghost use Rattle.mu_access.specs.View.{view, InRange};
 
 use crate::message::Message;
 use mu_codec::Payload;
+use mu_model_wire::laws::canonical_is_read;
 
 /// The canonical octets of a message in range: its unused bits are 0.
 pub fn write(msg: &Message) -> Payload
@@ -14,6 +15,7 @@ pub fn write(msg: &Message) -> Payload
     // Reading them gives the message back.
     ensures again { message_at rows result.items ≡ Ok (view msg.now) }
 {
+    canonical_is_read();
     spelled(msg)
 }
 

@@ -1,12 +1,13 @@
 -- The message in memory that a plain message is the view of.
 use Rattle.std.proofs.Common.{◌≡◌, ℕ, eqb, cond, List, [], ◌∷◌, ◌++◌, Option, Some, None, refl, sym, ap, ◌∙◌, map}
 use Rattle.std.specs.Prelude.{unwrap_or}
+use Rattle.std.specs.Option.{option_or}
 use Rattle.std.specs.Borrow.{Bor}
 use Rattle.mu_model_wire.specs.Fields.{Shown, number, octets as shown_octets, perhaps, Message}
 use Rattle.mu_model_wire.specs.Names.{mode, id, size, log, mtu, status, phase, blocks, chunk, octets, missing, format, block, chunk_size, bits, min_log, max_log, max_chunks, max_chunk_size, max_size, push, pull}
 use Rattle.mu_model_wire.specs.Reading.{value_of}
 use Rattle.mu_model_wire.specs.Reports.{shown_numbers}
-use Rattle.mu_model_wire.proofs.Found.{number_of, octets_of, number_of-append, octets_of-append, number_same, number_other, or_else, or_none}
+use Rattle.mu_model_wire.specs.Found.{number_of, octets_of, NumbersAreFound, OctetsAreFound, OptionalNumberIsFound, OptionalNumberHasOneName}
 use Rattle.mu_model_wire.specs.declared.reports.Report.{Report}
 use Rattle.mu_model_wire.specs.declared.reports.Report.TheVariants.{All, Nothing, Bits, List as Listed}
 use Rattle.mu_blobmsg.specs.View.{view}
@@ -33,7 +34,7 @@ report_back m =
     (cond (eqb (value_of format m.fields) 1) Nothing
     (cond (eqb (value_of format m.fields) 2) (Bits (record { items = octets_or_none bits m.fields })) (Listed (record { items = numbers_back m.entries }))))
 
-abbrev pub back : Message → BlobMsg
+abbrev back : Message → BlobMsg
 back m =
     cond (eqb m.opcode 0x8300) TransferGet
     (cond (eqb m.opcode 0x8301) (TransferStart (value_of mode m.fields) (value_of id m.fields) (value_of size m.fields) (value_of log m.fields) (value_of mtu m.fields))
@@ -70,40 +71,45 @@ lent_again : (b : Option (Bor (List ℕ))) → lent_there (octets_of blocks (len
 lent_again None = refl
 lent_again (Some o) = refl
 
-status_back : (s m p : ℕ) (i z l t : Option ℕ) (b : Option (Bor (List ℕ))) → back (view (TransferStatus s m p i z l t b)) ≡ TransferStatus s m p i z l t (unplaced_there b)
-status_back s m p i z l t b =
-    let one = number status s ∷ number mode m ∷ number phase p ∷ perhaps (number id) i in
-    let two = one ++ perhaps (number size) z in
-    let three = two ++ perhaps (number log) l in
-    let four = three ++ perhaps (number mtu) t in
-    let last = lent_shown b in
-    let split : (name : ℕ) → number_of name (four ++ last) ≡ or_else (or_else (or_else (or_else (number_of name one) (number_of name (perhaps (number size) z))) (number_of name (perhaps (number log) l))) (number_of name (perhaps (number mtu) t))) (number_of name last) = λ name. rw (number_of-append name four last, number_of-append name three (perhaps (number mtu) t), number_of-append name two (perhaps (number log) l), number_of-append name one (perhaps (number size) z)) refl in
-    let octets_split : octets_of blocks (four ++ last) ≡ octets_of blocks last = rw (octets_of-append blocks four last, octets_of-append blocks three (perhaps (number mtu) t), octets_of-append blocks two (perhaps (number log) l), octets_of-append blocks one (perhaps (number size) z), no_octets id blocks i, no_octets size blocks z, no_octets log blocks l, no_octets mtu blocks t) refl in
-    same_status _ s _ m _ p _ i _ z _ l _ t _ (unplaced_there b)
-    (ap (λ (o : Option ℕ). unwrap_or o 0) (split status))
-    (ap (λ (o : Option ℕ). unwrap_or o 0) (split mode))
-    (ap (λ (o : Option ℕ). unwrap_or o 0) (split phase))
-    (split id ∙ rw (number_same id i, number_other size id z refl, number_other log id l refl, number_other mtu id t refl, no_number id b, or_none i, or_none i, or_none i, or_none i) refl)
-    (split size ∙ rw (number_other id size i refl, number_same size z, number_other log size l refl, number_other mtu size t refl, no_number size b, or_none z, or_none z, or_none z) refl)
-    (split log ∙ rw (number_other id log i refl, number_other size log z refl, number_same log l, number_other mtu log t refl, no_number log b, or_none l, or_none l) refl)
-    (split mtu ∙ rw (number_other id mtu i refl, number_other size mtu z refl, number_other log mtu l refl, number_same mtu t, no_number mtu b, or_none t) refl)
-    (ap lent_there octets_split ∙ lent_again b)
+or_none : (o : Option ℕ) → option_or o None ≡ o
+or_none None = refl
+or_none (Some x) = refl
 
-pub back_view : (m : BlobMsg) → back (view m) ≡ content m
-back_view TransferGet = refl
-back_view (TransferStart m i s l t) = refl
-back_view (TransferCancel i) = refl
-back_view (TransferStatus s m p i z l t b) = status_back s m p i z l t b
-back_view (BlockStart b c) = refl
-back_view BlockGet = refl
-back_view BlobInformationGet = refl
-back_view (BlobInformationStatus n x c z s t p q) = refl
-back_view (ChunkTransfer c o) = refl
-back_view (BlockStatus s b c All) = refl
-back_view (BlockStatus s b c Nothing) = refl
-back_view (BlockStatus s b c (Bits os)) = refl
-back_view (BlockStatus s b c (Listed ns)) = ap (λ (items : List ℕ). BlockStatus s b c (Listed (record { items = items }))) (numbers_again ns.items)
-back_view (PartialBlockReport ns) = ap (λ (items : List ℕ). PartialBlockReport (record { items = items })) (numbers_again ns.items)
+module _ (found : NumbersAreFound) (octets_found : OctetsAreFound) (own : OptionalNumberIsFound) (other : OptionalNumberHasOneName) where
+  status_back : (s m p : ℕ) (i z l t : Option ℕ) (b : Option (Bor (List ℕ))) → back (view (TransferStatus s m p i z l t b)) ≡ TransferStatus s m p i z l t (unplaced_there b)
+  status_back s m p i z l t b =
+      let one = number status s ∷ number mode m ∷ number phase p ∷ perhaps (number id) i in
+      let two = one ++ perhaps (number size) z in
+      let three = two ++ perhaps (number log) l in
+      let four = three ++ perhaps (number mtu) t in
+      let last = lent_shown b in
+      let split : (name : ℕ) → number_of name (four ++ last) ≡ option_or (option_or (option_or (option_or (number_of name one) (number_of name (perhaps (number size) z))) (number_of name (perhaps (number log) l))) (number_of name (perhaps (number mtu) t))) (number_of name last) = λ name. rw (found name four last, found name three (perhaps (number mtu) t), found name two (perhaps (number log) l), found name one (perhaps (number size) z)) refl in
+      let octets_split : octets_of blocks (four ++ last) ≡ octets_of blocks last = rw (octets_found blocks four last, octets_found blocks three (perhaps (number mtu) t), octets_found blocks two (perhaps (number log) l), octets_found blocks one (perhaps (number size) z), no_octets id blocks i, no_octets size blocks z, no_octets log blocks l, no_octets mtu blocks t) refl in
+      same_status _ s _ m _ p _ i _ z _ l _ t _ (unplaced_there b)
+      (ap (λ (o : Option ℕ). unwrap_or o 0) (split status))
+      (ap (λ (o : Option ℕ). unwrap_or o 0) (split mode))
+      (ap (λ (o : Option ℕ). unwrap_or o 0) (split phase))
+      (split id ∙ rw (own id i, other size id z refl, other log id l refl, other mtu id t refl, no_number id b, or_none i, or_none i, or_none i, or_none i) refl)
+      (split size ∙ rw (other id size i refl, own size z, other log size l refl, other mtu size t refl, no_number size b, or_none z, or_none z, or_none z) refl)
+      (split log ∙ rw (other id log i refl, other size log z refl, own log l, other mtu log t refl, no_number log b, or_none l, or_none l) refl)
+      (split mtu ∙ rw (other id mtu i refl, other size mtu z refl, other log mtu l refl, own mtu t, no_number mtu b, or_none t) refl)
+      (ap lent_there octets_split ∙ lent_again b)
 
-pub tells_all : (m n : BlobMsg) → view m ≡ view n → content m ≡ content n
-tells_all m n same = sym (back_view m) ∙ ap back same ∙ back_view n
+  back_view : (m : BlobMsg) → back (view m) ≡ content m
+  back_view TransferGet = refl
+  back_view (TransferStart m i s l t) = refl
+  back_view (TransferCancel i) = refl
+  back_view (TransferStatus s m p i z l t b) = status_back s m p i z l t b
+  back_view (BlockStart b c) = refl
+  back_view BlockGet = refl
+  back_view BlobInformationGet = refl
+  back_view (BlobInformationStatus n x c z s t p q) = refl
+  back_view (ChunkTransfer c o) = refl
+  back_view (BlockStatus s b c All) = refl
+  back_view (BlockStatus s b c Nothing) = refl
+  back_view (BlockStatus s b c (Bits os)) = refl
+  back_view (BlockStatus s b c (Listed ns)) = ap (λ (items : List ℕ). BlockStatus s b c (Listed (record { items = items }))) (numbers_again ns.items)
+  back_view (PartialBlockReport ns) = ap (λ (items : List ℕ). PartialBlockReport (record { items = items })) (numbers_again ns.items)
+
+  pub tells_all : (m n : BlobMsg) → view m ≡ view n → content m ≡ content n
+  tells_all m n same = sym (back_view m) ∙ ap back same ∙ back_view n

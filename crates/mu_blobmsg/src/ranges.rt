@@ -6,6 +6,7 @@ ghost use Rattle.mu_blobmsg.specs.Ranges.{ListFits, ReportFits};
 
 use crate::message::BlobMsg;
 use arrayvec::ArrayVec;
+use mu_model_wire::reports::lists;
 use mu_report::{Report, encode_list};
 
 /// Whether each field is in its range, those of some phases alone are there in these alone, and the message has at
@@ -155,6 +156,7 @@ fn list_has_at_most(numbers: &[u16], most: usize) -> bool
     requires { most ≤ 379 }
     ensures { IsTrue result ↔ ListFits numbers.now most }
 {
+    lists();
     match encode_list(numbers) {
         Some(octets) => octets.len() <= most,
         None => false,

@@ -11,6 +11,8 @@ ghost use Rattle.mu_blobmsg.specs.View.{view};
 use crate::message::BlobMsg;
 use arrayvec::ArrayVec;
 use mu_codec::{Cursor, Refusal, Why};
+use mu_model_wire::laws::reads_what_is_spelled;
+use mu_model_wire::reports::lists;
 use mu_report::{Report, decode_list};
 
 /// The message that the octets spell, or the first place where they spell none.
@@ -20,6 +22,7 @@ pub fn read<'a>(bytes: &'a [u8]) -> Result<BlobMsg<'a>, Refusal>
     // What is read can be written.
     ensures fits { IfOk result (λ m. Fits blob_rows (view m)) }
 {
+    reads_what_is_spelled();
     decoded(bytes)
 }
 
@@ -268,6 +271,7 @@ fn list_at(place: u16, octets: &[u8]) -> Result<ArrayVec<u16, 379>, Refusal>
     ensures reads { Gives (λ v. shown_numbers missing v.items) result (entries_at (length octets.now) (pattern missing ∷ []) (record { at = place; octets = octets.now })) }
     ensures most { IfOk result (λ v. array_vec_len v ≤ length octets.now) }
 {
+    lists();
     match decode_list(octets) {
         Ok(numbers) => Ok(numbers),
         Err(fault) => Err(Refusal {

@@ -11,6 +11,8 @@ ghost use Rattle.mu_blobmsg.specs.View.{view, format_of};
 
 use crate::message::BlobMsg;
 use mu_codec::{Payload, put_octets, put_u8, put_u16, put_u32, put_u64};
+use mu_model_wire::laws::canonical_is_read;
+use mu_model_wire::reports::lists;
 use mu_report::{Report, encode_list};
 
 /// The canonical octets of a message in range: its unused bits are 0.
@@ -20,6 +22,7 @@ pub fn write(msg: &BlobMsg) -> Payload
     // Reading them gives the message back.
     ensures again { message_at blob_rows result.items ≡ Ok (view msg.now) }
 {
+    canonical_is_read();
     spelled(msg)
 }
 
@@ -219,12 +222,12 @@ fn partial_block_report(numbers: &[u16]) -> Payload
     out
 }
 
-#[tactic(auto, using(mu_model_wire::proofs::Lists::list_entries))]
 fn put_list(out: &mut Payload, numbers: &[u16])
     requires some { 1 ≤ array_vec_len out.old }
     requires room { array_vec_len out.old + length (entries_spelling (pattern missing ∷ []) (shown_numbers missing numbers.now)) ≤ 380 }
     ensures { out.new.items ≡ out.old.items ++ entries_spelling (pattern missing ∷ []) (shown_numbers missing numbers.now) }
 {
+    lists();
     match encode_list(numbers) {
         Some(octets) => put_octets(out, octets.as_slice()),
         None => prove!(false),

@@ -1,12 +1,13 @@
 -- The message in memory that a plain message is the view of, where no progress is odd.
 use Rattle.std.proofs.Common.{◌≡◌, ℕ, suc, ◌*◌, ◌/◌, eqb, cond, List, [], ◌∷◌, ◌++◌, Option, Some, None, refl, sym, ap, ◌∙◌, map, arith}
 use Rattle.std.specs.Prelude.{unwrap_or}
+use Rattle.std.specs.Option.{option_or}
 use Rattle.std.specs.List.{All}
 use Rattle.std.specs.Borrow.{Bor}
 use Rattle.mu_model_wire.specs.Fields.{Shown, number, octets, perhaps, Message}
 use Rattle.mu_model_wire.specs.Names.{address, index, status, count, first, limit, phase, update_status, transfer_status, progress, receivers, images, max_size, space, remaining, oob, schemes, appkey, ttl, base, mode, policy, image, label, group, id, size, metadata, fwid, uri, kind}
 use Rattle.mu_model_wire.specs.Reading.{value_of}
-use Rattle.mu_model_wire.proofs.Found.{number_of, octets_of, number_of-append, octets_of-append, number_same, number_other, or_else, or_none}
+use Rattle.mu_model_wire.specs.Found.{number_of, octets_of, NumbersAreFound, OctetsAreFound, OptionalNumberIsFound, OptionalNumberHasOneName}
 use Rattle.mu_distmsg.specs.View.{view, pair_shown, row_shown, RowIsEven, IsEven}
 use Rattle.mu_distmsg.specs.Laws.{content, unplaced_there}
 use Rattle.mu_distmsg.specs.declared.message.ReceiverRow.{ReceiverRow}
@@ -39,7 +40,7 @@ row_back shown = record {
   image_index = value_of index shown;
 }
 
-abbrev pub back : Message → DistMsg
+abbrev back : Message → DistMsg
 back m =
     cond (eqb m.opcode 0x8311) (ReceiversAdd (record { items = map pair_back m.entries }))
     (cond (eqb m.opcode 0x8312) ReceiversDeleteAll
@@ -108,85 +109,90 @@ same_distribution : (s s' : ℕ) (p p' : ℕ) (g g' : Option ℕ) (a a' : Option
     → DistributionStatus s p g a t b m q i ≡ DistributionStatus s' p' g' a' t' b' m' q' i'
 same_distribution s s' p p' g g' a a' t t' b b' m m' q q' i i' es ep eg ea et eb em eq ei = rw (es, ep, eg, ea, et, eb, em, eq, ei) refl
 
-distribution_back : (s p : ℕ) (g a t b m q i : Option ℕ) → back (view (DistributionStatus s p g a t b m q i)) ≡ DistributionStatus s p g a t b m q i
-distribution_back s p g a t b m q i =
-    let l1 = number status s ∷ number phase p ∷ perhaps (number group) g in
-    let l2 = l1 ++ perhaps (number appkey) a in
-    let l3 = l2 ++ perhaps (number ttl) t in
-    let l4 = l3 ++ perhaps (number base) b in
-    let l5 = l4 ++ perhaps (number mode) m in
-    let l6 = l5 ++ perhaps (number policy) q in
-    let l7 = l6 ++ perhaps (number image) i in
-    let split : (name : ℕ) → number_of name l7 ≡ or_else (or_else (or_else (or_else (or_else (or_else (number_of name l1) (number_of name (perhaps (number appkey) a))) (number_of name (perhaps (number ttl) t))) (number_of name (perhaps (number base) b))) (number_of name (perhaps (number mode) m))) (number_of name (perhaps (number policy) q))) (number_of name (perhaps (number image) i)) = λ name. rw (number_of-append name l6 (perhaps (number image) i), number_of-append name l5 (perhaps (number policy) q), number_of-append name l4 (perhaps (number mode) m), number_of-append name l3 (perhaps (number base) b), number_of-append name l2 (perhaps (number ttl) t), number_of-append name l1 (perhaps (number appkey) a)) refl in
-    same_distribution _ s _ p _ g _ a _ t _ b _ m _ q _ i
-    (ap (λ (o : Option ℕ). unwrap_or o 0) (split status))
-    (ap (λ (o : Option ℕ). unwrap_or o 0) (split phase))
-    (split group ∙ rw (number_same group g, number_other appkey group a refl, number_other ttl group t refl, number_other base group b refl, number_other mode group m refl, number_other policy group q refl, number_other image group i refl, or_none g, or_none g, or_none g, or_none g, or_none g, or_none g) refl)
-    (split appkey ∙ rw (number_other group appkey g refl, number_same appkey a, number_other ttl appkey t refl, number_other base appkey b refl, number_other mode appkey m refl, number_other policy appkey q refl, number_other image appkey i refl, or_none a, or_none a, or_none a, or_none a, or_none a) refl)
-    (split ttl ∙ rw (number_other group ttl g refl, number_other appkey ttl a refl, number_same ttl t, number_other base ttl b refl, number_other mode ttl m refl, number_other policy ttl q refl, number_other image ttl i refl, or_none t, or_none t, or_none t, or_none t) refl)
-    (split base ∙ rw (number_other group base g refl, number_other appkey base a refl, number_other ttl base t refl, number_same base b, number_other mode base m refl, number_other policy base q refl, number_other image base i refl, or_none b, or_none b, or_none b) refl)
-    (split mode ∙ rw (number_other group mode g refl, number_other appkey mode a refl, number_other ttl mode t refl, number_other base mode b refl, number_same mode m, number_other policy mode q refl, number_other image mode i refl, or_none m, or_none m) refl)
-    (split policy ∙ rw (number_other group policy g refl, number_other appkey policy a refl, number_other ttl policy t refl, number_other base policy b refl, number_other mode policy m refl, number_same policy q, number_other image policy i refl, or_none q) refl)
-    (split image ∙ rw (number_other group image g refl, number_other appkey image a refl, number_other ttl image t refl, number_other base image b refl, number_other mode image m refl, number_other policy image q refl, number_same image i) refl)
-
 same_start : (a a' : ℕ) (t t' : ℕ) (b b' : ℕ) (m m' : ℕ) (p p' : ℕ) (i i' : ℕ) (l l' : Option (List ℕ)) (g g' : Option ℕ) → a ≡ a' → t ≡ t' → b ≡ b' → m ≡ m' → p ≡ p' → i ≡ i' → l ≡ l' → g ≡ g'
     → DistributionStart a t b m p i l g ≡ DistributionStart a' t' b' m' p' i' l' g'
 same_start a a' t t' b b' m m' p p' i i' l l' g g' ea et eb em ep ei el eg = rw (ea, et, eb, em, ep, ei, el, eg) refl
-
-start_back : (a t b m p i : ℕ) (l : Option (List ℕ)) (g : Option ℕ) → back (view (DistributionStart a t b m p i l g)) ≡ DistributionStart a t b m p i l g
-start_back a t b m p i l g =
-    let l1 = number appkey a ∷ number ttl t ∷ number base b ∷ number mode m ∷ number policy p ∷ number image i ∷ perhaps (octets label) l in
-    let last = perhaps (number group) g in
-    let split : (name : ℕ) → number_of name (l1 ++ last) ≡ or_else (number_of name l1) (number_of name last) = λ name. number_of-append name l1 last in
-    let or_zero = λ (o : Option ℕ). unwrap_or o 0 in
-    same_start _ a _ t _ b _ m _ p _ i _ l _ g
-    (ap or_zero (split appkey)) (ap or_zero (split ttl)) (ap or_zero (split base)) (ap or_zero (split mode)) (ap or_zero (split policy)) (ap or_zero (split image))
-    (octets_of-append label l1 last ∙ rw (label_again l, no_octets group label g, or_none l) refl)
-    (split group ∙ rw (no_label group l, number_same group g) refl)
 
 same_upload : (s s' : ℕ) (p p' : ℕ) (r r' : Option ℕ) (k k' : Option ℕ) (f f' : Option (Bor (List ℕ))) → s ≡ s' → p ≡ p' → r ≡ r' → k ≡ k' → f ≡ f'
     → UploadStatus s p r k f ≡ UploadStatus s' p' r' k' f'
 same_upload s s' p p' r r' k k' f f' es ep er ek ef = rw (es, ep, er, ek, ef) refl
 
-upload_back : (s p : ℕ) (r k : Option ℕ) (f : Option (Bor (List ℕ))) → back (view (UploadStatus s p r k f)) ≡ UploadStatus s p r k (unplaced_there f)
-upload_back s p r k f =
-    let l1 = number status s ∷ number phase p ∷ perhaps (number progress) r in
-    let l2 = l1 ++ perhaps (number kind) k in
-    let last = lent_shown f in
-    let split : (name : ℕ) → number_of name (l2 ++ last) ≡ or_else (or_else (number_of name l1) (number_of name (perhaps (number kind) k))) (number_of name last) = λ name. rw (number_of-append name l2 last, number_of-append name l1 (perhaps (number kind) k)) refl in
-    let os : octets_of fwid (l2 ++ last) ≡ octets_of fwid last = rw (octets_of-append fwid l2 last, octets_of-append fwid l1 (perhaps (number kind) k), no_octets progress fwid r, no_octets kind fwid k) refl in
-    let or_zero = λ (o : Option ℕ). unwrap_or o 0 in
-    same_upload _ s _ p _ r _ k _ (unplaced_there f)
-    (ap or_zero (split status)) (ap or_zero (split phase))
-    (split progress ∙ rw (number_same progress r, number_other kind progress k refl, no_number progress f, or_none r, or_none r) refl)
-    (split kind ∙ rw (number_other progress kind r refl, number_same kind k, no_number kind f, or_none k) refl)
-    (ap lent_there os ∙ lent_again f)
+or_none : {A : Type 0} (o : Option A) → option_or o None ≡ o
+or_none None = refl
+or_none (Some x) = refl
 
-pub back_view : (m : DistMsg) → IsEven m → back (view m) ≡ content m
-back_view (ReceiversAdd es) even = ap (λ (items : List (ℕ × ℕ)). ReceiversAdd (record { items = items })) (pairs_again es.items)
-back_view ReceiversDeleteAll even = refl
-back_view (ReceiversStatus s c) even = refl
-back_view (ReceiversGet f l) even = refl
-back_view (ReceiversList c f es) even = ap (λ (items : List ReceiverRow). ReceiversList c f (record { items = items })) (rows_again es.items even)
-back_view CapabilitiesGet even = refl
-back_view (CapabilitiesStatus r i m s l o u) even = refl
-back_view DistributionGet even = refl
-back_view (DistributionStart a t b m p i l g) even = start_back a t b m p i l g
-back_view DistributionSuspend even = refl
-back_view DistributionCancel even = refl
-back_view DistributionApply even = refl
-back_view (DistributionStatus s p g a t b m q i) even = distribution_back s p g a t b m q i
-back_view UploadGet even = refl
-back_view (UploadStart t b i s m f) even = refl
-back_view (UploadStartOob u f) even = refl
-back_view UploadCancel even = refl
-back_view (UploadStatus s p r k f) even = upload_back s p r k f
-back_view (FirmwareGet f) even = refl
-back_view (FirmwareGetByIndex i) even = refl
-back_view (FirmwareDelete f) even = refl
-back_view FirmwareDeleteAll even = refl
-back_view (FirmwareStatus s c i None) even = refl
-back_view (FirmwareStatus s c i (Some f)) even = refl
+module _ (found : NumbersAreFound) (octets_found : OctetsAreFound) (own : OptionalNumberIsFound) (other : OptionalNumberHasOneName) where
+  distribution_back : (s p : ℕ) (g a t b m q i : Option ℕ) → back (view (DistributionStatus s p g a t b m q i)) ≡ DistributionStatus s p g a t b m q i
+  distribution_back s p g a t b m q i =
+      let l1 = number status s ∷ number phase p ∷ perhaps (number group) g in
+      let l2 = l1 ++ perhaps (number appkey) a in
+      let l3 = l2 ++ perhaps (number ttl) t in
+      let l4 = l3 ++ perhaps (number base) b in
+      let l5 = l4 ++ perhaps (number mode) m in
+      let l6 = l5 ++ perhaps (number policy) q in
+      let l7 = l6 ++ perhaps (number image) i in
+      let split : (name : ℕ) → number_of name l7 ≡ option_or (option_or (option_or (option_or (option_or (option_or (number_of name l1) (number_of name (perhaps (number appkey) a))) (number_of name (perhaps (number ttl) t))) (number_of name (perhaps (number base) b))) (number_of name (perhaps (number mode) m))) (number_of name (perhaps (number policy) q))) (number_of name (perhaps (number image) i)) = λ name. rw (found name l6 (perhaps (number image) i), found name l5 (perhaps (number policy) q), found name l4 (perhaps (number mode) m), found name l3 (perhaps (number base) b), found name l2 (perhaps (number ttl) t), found name l1 (perhaps (number appkey) a)) refl in
+      same_distribution _ s _ p _ g _ a _ t _ b _ m _ q _ i
+      (ap (λ (o : Option ℕ). unwrap_or o 0) (split status))
+      (ap (λ (o : Option ℕ). unwrap_or o 0) (split phase))
+      (split group ∙ rw (own group g, other appkey group a refl, other ttl group t refl, other base group b refl, other mode group m refl, other policy group q refl, other image group i refl, or_none g, or_none g, or_none g, or_none g, or_none g, or_none g) refl)
+      (split appkey ∙ rw (other group appkey g refl, own appkey a, other ttl appkey t refl, other base appkey b refl, other mode appkey m refl, other policy appkey q refl, other image appkey i refl, or_none a, or_none a, or_none a, or_none a, or_none a) refl)
+      (split ttl ∙ rw (other group ttl g refl, other appkey ttl a refl, own ttl t, other base ttl b refl, other mode ttl m refl, other policy ttl q refl, other image ttl i refl, or_none t, or_none t, or_none t, or_none t) refl)
+      (split base ∙ rw (other group base g refl, other appkey base a refl, other ttl base t refl, own base b, other mode base m refl, other policy base q refl, other image base i refl, or_none b, or_none b, or_none b) refl)
+      (split mode ∙ rw (other group mode g refl, other appkey mode a refl, other ttl mode t refl, other base mode b refl, own mode m, other policy mode q refl, other image mode i refl, or_none m, or_none m) refl)
+      (split policy ∙ rw (other group policy g refl, other appkey policy a refl, other ttl policy t refl, other base policy b refl, other mode policy m refl, own policy q, other image policy i refl, or_none q) refl)
+      (split image ∙ rw (other group image g refl, other appkey image a refl, other ttl image t refl, other base image b refl, other mode image m refl, other policy image q refl, own image i) refl)
 
-pub tells_all : (m n : DistMsg) → IsEven m → IsEven n → view m ≡ view n → content m ≡ content n
-tells_all m n even evener same = sym (back_view m even) ∙ ap back same ∙ back_view n evener
+  start_back : (a t b m p i : ℕ) (l : Option (List ℕ)) (g : Option ℕ) → back (view (DistributionStart a t b m p i l g)) ≡ DistributionStart a t b m p i l g
+  start_back a t b m p i l g =
+      let l1 = number appkey a ∷ number ttl t ∷ number base b ∷ number mode m ∷ number policy p ∷ number image i ∷ perhaps (octets label) l in
+      let last = perhaps (number group) g in
+      let split : (name : ℕ) → number_of name (l1 ++ last) ≡ option_or (number_of name l1) (number_of name last) = λ name. found name l1 last in
+      let or_zero = λ (o : Option ℕ). unwrap_or o 0 in
+      same_start _ a _ t _ b _ m _ p _ i _ l _ g
+      (ap or_zero (split appkey)) (ap or_zero (split ttl)) (ap or_zero (split base)) (ap or_zero (split mode)) (ap or_zero (split policy)) (ap or_zero (split image))
+      (octets_found label l1 last ∙ rw (label_again l, no_octets group label g, or_none l) refl)
+      (split group ∙ rw (no_label group l, own group g) refl)
+
+  upload_back : (s p : ℕ) (r k : Option ℕ) (f : Option (Bor (List ℕ))) → back (view (UploadStatus s p r k f)) ≡ UploadStatus s p r k (unplaced_there f)
+  upload_back s p r k f =
+      let l1 = number status s ∷ number phase p ∷ perhaps (number progress) r in
+      let l2 = l1 ++ perhaps (number kind) k in
+      let last = lent_shown f in
+      let split : (name : ℕ) → number_of name (l2 ++ last) ≡ option_or (option_or (number_of name l1) (number_of name (perhaps (number kind) k))) (number_of name last) = λ name. rw (found name l2 last, found name l1 (perhaps (number kind) k)) refl in
+      let os : octets_of fwid (l2 ++ last) ≡ octets_of fwid last = rw (octets_found fwid l2 last, octets_found fwid l1 (perhaps (number kind) k), no_octets progress fwid r, no_octets kind fwid k) refl in
+      let or_zero = λ (o : Option ℕ). unwrap_or o 0 in
+      same_upload _ s _ p _ r _ k _ (unplaced_there f)
+      (ap or_zero (split status)) (ap or_zero (split phase))
+      (split progress ∙ rw (own progress r, other kind progress k refl, no_number progress f, or_none r, or_none r) refl)
+      (split kind ∙ rw (other progress kind r refl, own kind k, no_number kind f, or_none k) refl)
+      (ap lent_there os ∙ lent_again f)
+
+  back_view : (m : DistMsg) → IsEven m → back (view m) ≡ content m
+  back_view (ReceiversAdd es) even = ap (λ (items : List (ℕ × ℕ)). ReceiversAdd (record { items = items })) (pairs_again es.items)
+  back_view ReceiversDeleteAll even = refl
+  back_view (ReceiversStatus s c) even = refl
+  back_view (ReceiversGet f l) even = refl
+  back_view (ReceiversList c f es) even = ap (λ (items : List ReceiverRow). ReceiversList c f (record { items = items })) (rows_again es.items even)
+  back_view CapabilitiesGet even = refl
+  back_view (CapabilitiesStatus r i m s l o u) even = refl
+  back_view DistributionGet even = refl
+  back_view (DistributionStart a t b m p i l g) even = start_back a t b m p i l g
+  back_view DistributionSuspend even = refl
+  back_view DistributionCancel even = refl
+  back_view DistributionApply even = refl
+  back_view (DistributionStatus s p g a t b m q i) even = distribution_back s p g a t b m q i
+  back_view UploadGet even = refl
+  back_view (UploadStart t b i s m f) even = refl
+  back_view (UploadStartOob u f) even = refl
+  back_view UploadCancel even = refl
+  back_view (UploadStatus s p r k f) even = upload_back s p r k f
+  back_view (FirmwareGet f) even = refl
+  back_view (FirmwareGetByIndex i) even = refl
+  back_view (FirmwareDelete f) even = refl
+  back_view FirmwareDeleteAll even = refl
+  back_view (FirmwareStatus s c i None) even = refl
+  back_view (FirmwareStatus s c i (Some f)) even = refl
+
+  pub tells_all : (m n : DistMsg) → IsEven m → IsEven n → view m ≡ view n → content m ≡ content n
+  tells_all m n even evener same = sym (back_view m even) ∙ ap back same ∙ back_view n evener

@@ -9,15 +9,14 @@ use Rattle.mu_model_wire.specs.Spelling.{Fits, EntriesFit, entries_spelling}
 use Rattle.mu_distmsg.specs.declared.message.DistMsg.TheVariants.{ReceiversAdd, ReceiversList}
 use Rattle.mu_model_wire.specs.declared.Refusal.{Refusal}
 use Rattle.mu_model_wire.specs.Reading.{Gives, message_at}
-use Rattle.mu_model_wire.specs.Laws.{AreOctets}
+use Rattle.mu_model_wire.specs.Laws.{AreOctets, ReadsWhatIsSpelled}
 use Rattle.mu_model_wire.specs.Distribution.{distribution_rows, receiver_fields, row_fields}
-use Rattle.mu_model_wire.proofs.Taken.{message_take}
 use Rattle.mu_distmsg.specs.declared.message.DistMsg.{DistMsg}
 use Rattle.mu_distmsg.specs.View.{view, pair_shown, row_shown, RowIsEven, IsEven, InRange}
 
-pub is_fit : (bytes : List ℕ) (r : Result DistMsg Refusal) → AreOctets bytes → Gives view r (message_at distribution_rows bytes) → IfOk r (λ m. IsEven m) → IfOk r (λ m. InRange m)
-is_fit bytes (Ok m) octets given even = record { fits = (message_take distribution_rows bytes (view m) octets refl given).0; even = even }
-is_fit bytes (Err e) octets given even = tt
+pub is_fit : ReadsWhatIsSpelled → (bytes : List ℕ) (r : Result DistMsg Refusal) → AreOctets bytes → Gives view r (message_at distribution_rows bytes) → IfOk r (λ m. IsEven m) → IfOk r (λ m. InRange m)
+is_fit law bytes (Ok m) octets given even = record { fits = ((law distribution_rows bytes (view m) refl octets).0 given).0; even = even }
+is_fit law bytes (Err e) octets given even = tt
 
 pub all_even_push : (rows : List ReceiverRow) (row : ReceiverRow) → All RowIsEven rows → RowIsEven row → All RowIsEven (rows ++ row ∷ [])
 all_even_push rows row even last = λ k d lt. elim (cases_lt k (length rows)) [

@@ -7,6 +7,7 @@ ghost use Rattle.mu_distmsg.specs.View.{view, pair_shown, row_shown, RowIsEven, 
 use crate::message::{DistMsg, ReceiverRow};
 use arrayvec::ArrayVec;
 use mu_codec::{Cursor, Refusal, Why};
+use mu_model_wire::laws::{entries_are_read_in_turn, reads_what_is_spelled};
 
 /// The message that the octets spell, or the first place where they spell none.
 pub fn read<'a>(bytes: &'a [u8]) -> Result<DistMsg<'a>, Refusal>
@@ -15,6 +16,7 @@ pub fn read<'a>(bytes: &'a [u8]) -> Result<DistMsg<'a>, Refusal>
     // What is read can be written.
     ensures fits { IfOk result (λ m. InRange m) }
 {
+    reads_what_is_spelled();
     decoded(bytes)
 }
 
@@ -74,6 +76,7 @@ fn receivers(cursor: &mut Cursor) -> Result<ArrayVec<(u16, u8), 126>, Refusal>
     requires { length cursor.old.octets ≤ 378 }
     ensures { Gives (λ v. map pair_shown v.items) result (entries_at (length cursor.old.octets) receiver_fields cursor.old) }
 {
+    entries_are_read_in_turn();
     let mut receivers = ArrayVec::new();
     while cursor.left() > 0 {
         let receiver = receiver(cursor)?;
@@ -153,6 +156,7 @@ fn rows(cursor: &mut Cursor) -> Result<ArrayVec<ReceiverRow, 74>, Refusal>
     ensures reads { Gives (λ v. map row_shown v.items) result (entries_at (length cursor.old.octets) row_fields cursor.old) }
     ensures even { IfOk result (λ v. All RowIsEven v.items) }
 {
+    entries_are_read_in_turn();
     let mut rows = ArrayVec::new();
     while cursor.left() > 0 {
         let row = row(cursor)?;

@@ -7,6 +7,7 @@ ghost use Rattle.mu_distmsg.specs.View.{view, pair_shown, row_shown, InRange};
 
 use crate::message::{DistMsg, ReceiverRow};
 use mu_codec::{Payload, put_octets, put_u8, put_u16, put_u32, put_u40, put_u64};
+use mu_model_wire::laws::canonical_is_read;
 
 /// The canonical octets of a message in range: its unused bits are 0.
 pub fn write(msg: &DistMsg) -> Payload
@@ -15,6 +16,7 @@ pub fn write(msg: &DistMsg) -> Payload
     // Reading them gives the message back.
     ensures again { message_at distribution_rows result.items ≡ Ok (view msg.now) }
 {
+    canonical_is_read();
     spelled(msg)
 }
 

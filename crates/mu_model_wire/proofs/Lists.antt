@@ -1,22 +1,21 @@
 -- Lists of numbers as the entries of a row.
-use Rattle.std.proofs.Common.{◌≡◌, ℕ, suc, ◌≤◌, ◌<◌, ◌^◌, get_or, List, [], ◌∷◌, length, refl, arith, length-append, inl, inr}
+use Rattle.std.proofs.Common.{ℕ, ◌≤◌, ◌<◌, ◌^◌, [], ◌∷◌, length, refl, arith, length-append, inl, inr}
 use Rattle.std.proofs.lemmas.Bool.{lt-ltb, le-ltb, cases_lt}
 use Rattle.std.proofs.lemmas.List.{append-nil}
+use Rattle.std.proofs.lemmas.List.Elements.{All-head, All-tail}
 use Rattle.mu_model_wire.specs.Patterns.{pattern_spelling, list_spelling}
-use Rattle.mu_model_wire.specs.Reports.{shown_numbers}
-use Rattle.mu_model_wire.specs.Fields.{pattern}
-use Rattle.mu_model_wire.specs.Spelling.{entries_spelling, EntriesFit}
+use Rattle.mu_model_wire.specs.Reports.{NumbersFitTheGrammar, GrammarSpellsLists, NumbersHaveOctets}
 
 -- the entries of a list are spelled as its patterns
-pub list_entries : (name : ℕ) (numbers : List ℕ) → entries_spelling (pattern name ∷ []) (shown_numbers name numbers) ≡ list_spelling numbers
+pub list_entries : GrammarSpellsLists
 list_entries name [] = refl
 list_entries name (n ∷ numbers) = rw (append-nil (pattern_spelling n), list_entries name numbers) refl
 
-pub list_fits : (name : ℕ) (numbers : List ℕ) → ((i : ℕ) → get_or numbers i 0 < 2 ^ 16) → EntriesFit (pattern name ∷ []) (shown_numbers name numbers)
+pub list_fits : NumbersFitTheGrammar
 list_fits name [] small = tt
 list_fits name (n ∷ numbers) small =
-    let first = small 0 in
-    (((refl, omega (arith, first)), refl), list_fits name numbers (λ i. small (suc i)))
+    let first = All-head (λ (m : ℕ). m < 2 ^ 16) n numbers small in
+    (((refl, omega (arith, first)), refl), list_fits name numbers (All-tail (λ (m : ℕ). m < 2 ^ 16) n numbers small))
 
 some_octet : (n : ℕ) → 1 ≤ length (pattern_spelling n)
 some_octet n =
@@ -29,6 +28,6 @@ some_octet n =
     ]
 
 -- each number has an octet
-pub list_count : (numbers : List ℕ) → length numbers ≤ length (list_spelling numbers)
+pub list_count : NumbersHaveOctets
 list_count [] = omega arith
 list_count (n ∷ numbers) = omega (arith, some_octet n, list_count numbers, length-append (pattern_spelling n) (list_spelling numbers))

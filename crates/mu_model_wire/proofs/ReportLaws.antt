@@ -9,7 +9,7 @@ use Rattle.std.proofs.lemmas.List.{map-id, append-nil, get_or_past, get_or-take,
 use Rattle.std.proofs.lemmas.List.Elements.{All-from_get_or, Contains-get_or, Contains-append_left, Contains-push, Contains-push_cases}
 use Rattle.std.proofs.lemmas.List.FromFn.{filter_of_map_range_with_len_more, length-map-range_with_len, get_or-map-range_with_len}
 use Rattle.std.proofs.lemmas.Nat.Bits.{bit_at-zero, bit_at-suc, bit_at_lowest}
-use Rattle.mu_model_wire.specs.Reports.{has, members, no_number, every_number, field_length, IsBitField, number_of_bits, bit_field, Reports, ReportsNameOneSet, ReportsOfASetAreInOrder, ReportOfASetNamesIt}
+use Rattle.mu_model_wire.specs.Reports.{has, members, no_number, every_number, field_length, number_of_bits, bit_field, Reports, ReportsNameOneSet, ReportsOfASetAreInOrder, ReportOfASetNamesIt, BitFieldIsOfItsSet, BitFieldsAreOctets}
 use Rattle.mu_model_wire.specs.declared.reports.Report.TheVariants.{All, Nothing, Bits, List as Listed}
 
 pub same_sets : (a b : List Bool) → length a ≡ length b → ((k : ℕ) → has a k ≡ has b k) → a ≡ b
@@ -138,7 +138,7 @@ octet_of set j = number_of_bits (take 8 (drop (8 * j) set))
 has_part : (set : List Bool) (j i : ℕ) → i < 8 → has (take 8 (drop (8 * j) set)) i ≡ has set (8 * j + i)
 has_part set j i h = get_or-take 8 (drop (8 * j) set) i false h ∙ get_or-drop (8 * j) set i false
 
-pub field_of_set : (set : List Bool) → IsBitField (bit_field set) set
+pub field_of_set : BitFieldIsOfItsSet
 field_of_set set =
     let f : ℕ → ℕ = λ j. number_of_bits (take 8 (drop (8 * j) set)) in
     let n = field_length (length set) in
@@ -165,7 +165,7 @@ small_part set j =
     let most = pow-le-pow_right {n = 2} (lit≤ tt) short in
     omega arith
 
-pub field_small : (set : List Bool) (i : ℕ) → get_or (bit_field set) i 0 < 2 ^ 8
+pub field_small : BitFieldsAreOctets
 field_small set i =
     let f : ℕ → ℕ = λ j. number_of_bits (take 8 (drop (8 * j) set)) in
     let n = field_length (length set) in

@@ -12,3 +12,5 @@ pub mod Table
 pub mod Packet
 pub mod Spells
 pub mod Laws
+pub mod Found
+pub mod Entries

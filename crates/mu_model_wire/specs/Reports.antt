@@ -6,6 +6,7 @@ use Rattle.std.specs.Int.{bit_at}
 use Rattle.mu_model_wire.specs.Patterns.{list_spelling, IsList, IsListFault}
 use Rattle.mu_model_wire.specs.Fields.{pattern, number, Shown}
 use Rattle.mu_model_wire.specs.Reading.{Left, entries_at, refuse}
+use Rattle.mu_model_wire.specs.Spelling.{EntriesFit, entries_spelling}
 use Rattle.mu_model_wire.specs.declared.Why.TheVariants.{Short, Value}
 use Rattle.mu_model_wire.specs.declared.reports.Report.{Report}
 use Rattle.mu_model_wire.specs.declared.reports.Report.TheVariants.{All, Nothing, Bits, List as Listed}
@@ -123,6 +124,13 @@ ReportsOfASetAreInOrder = (report : Report) (set : List Bool) → Reports report
 abbrev pub ReportOfASetNamesIt : Type 0
 ReportOfASetNamesIt = (set : List Bool) → Reports (report_of set) set
 
+-- the bit field of a set is one of it, and of octets
+abbrev pub BitFieldIsOfItsSet : Type 0
+BitFieldIsOfItsSet = (set : List Bool) → IsBitField (bit_field set) set
+
+abbrev pub BitFieldsAreOctets : Type 0
+BitFieldsAreOctets = (set : List Bool) (i : ℕ) → slice_index (bit_field set) i < 2 ^ 8
+
 -- the spelling of numbers is their list
 abbrev pub SpellingsAreLists : Type 0
 SpellingsAreLists = (numbers : List ℕ) → AllOf (λ n. n < 2 ^ 16) numbers → IsList (list_spelling numbers) numbers
@@ -156,3 +164,14 @@ GrammarRefusesLists =
     (name : ℕ) (left : Left) (at : ℕ) (cut : Bool)
     → IsListFault left.octets at cut
     → entries_at (length left.octets) (pattern name ∷ []) left ≡ refuse (left.at + at) (if cut then Short else Value)
+
+-- numbers fit the grammar's repeated number pattern, which spells their list
+abbrev pub NumbersFitTheGrammar : Type 0
+NumbersFitTheGrammar = (name : ℕ) (numbers : List ℕ) → AllOf (λ n. n < 2 ^ 16) numbers → EntriesFit (pattern name ∷ []) (shown_numbers name numbers)
+
+abbrev pub GrammarSpellsLists : Type 0
+GrammarSpellsLists = (name : ℕ) (numbers : List ℕ) → entries_spelling (pattern name ∷ []) (shown_numbers name numbers) ≡ list_spelling numbers
+
+-- a list has an octet or more for each number
+abbrev pub NumbersHaveOctets : Type 0
+NumbersHaveOctets = (numbers : List ℕ) → length numbers ≤ length (list_spelling numbers)

@@ -1,4 +1,6 @@
 //! What holds of the grammar and of every table like it: functions that do nothing, whose contracts are laws.
+ghost use Rattle.mu_model_wire.specs.Entries.{EntriesBegin, EntryIsRead, EntryIsRefused, EntriesEnd};
+ghost use Rattle.mu_model_wire.specs.Found.{NumbersAreFound, OctetsAreFound, OptionalNumberIsFound, OptionalNumberHasOneName};
 ghost use Rattle.mu_model_wire.specs.Laws.{GrammarHolds, ReadsWhatIsSpelled, CanonicalSpells, CanonicalIsRead, IsOneOrTheOther};
 
 /// The grammar's rows can each be read back, and no two have one opcode.
@@ -24,4 +26,20 @@ pub fn canonical_is_read()
 /// All octets are exactly one message or exactly one refusal.
 pub fn is_one_or_the_other()
     ensures { IsOneOrTheOther }
+{}
+
+/// A list of entries is read entry by entry.
+pub fn entries_are_read_in_turn()
+    ensures begin { EntriesBegin }
+    ensures read { EntryIsRead }
+    ensures refused { EntryIsRefused }
+    ensures end { EntriesEnd }
+{}
+
+/// What a message shows under a name is found again.
+pub fn what_is_shown_is_found()
+    ensures numbers { NumbersAreFound }
+    ensures octets { OctetsAreFound }
+    ensures own { OptionalNumberIsFound }
+    ensures other { OptionalNumberHasOneName }
 {}

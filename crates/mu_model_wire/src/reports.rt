@@ -1,6 +1,6 @@
 //! What names a set of missing blocks or chunks on the wire.
 
-ghost use Rattle.mu_model_wire.specs.Reports.{MembersAreThose, MembersRise, ComplementHasTheOthers, ComplementHasTheRest, UnionHasBoth, ReportsNameOneSet, ReportsOfASetAreInOrder, ReportOfASetNamesIt, SpellingsAreLists, ListsAreRead, ListsHaveNoFault, ListFaultsAreOne, GrammarReadsLists, GrammarRefusesLists};
+ghost use Rattle.mu_model_wire.specs.Reports.{MembersAreThose, MembersRise, ComplementHasTheOthers, ComplementHasTheRest, UnionHasBoth, ReportsNameOneSet, ReportsOfASetAreInOrder, ReportOfASetNamesIt, BitFieldIsOfItsSet, BitFieldsAreOctets, SpellingsAreLists, ListsAreRead, ListsHaveNoFault, ListFaultsAreOne, GrammarReadsLists, GrammarRefusesLists, NumbersFitTheGrammar, GrammarSpellsLists, NumbersHaveOctets};
 
 use arrayvec::ArrayVec;
 
@@ -33,7 +33,14 @@ pub fn reports()
     ensures of_a_set { ReportOfASetNamesIt }
 {}
 
-/// Octets are one list of patterns or have one fault, as the grammar reads them.
+/// The bit field of a set is one of that set, and of octets.
+pub fn bit_fields()
+    ensures of_a_set { BitFieldIsOfItsSet }
+    ensures octets { BitFieldsAreOctets }
+{}
+
+/// Octets are one list of patterns or have one fault, as the grammar reads them, and numbers are spelled by the grammar as
+/// their list.
 pub fn lists()
     ensures spelled { SpellingsAreLists }
     ensures one_list { ListsAreRead }
@@ -41,4 +48,7 @@ pub fn lists()
     ensures one_fault { ListFaultsAreOne }
     ensures read { GrammarReadsLists }
     ensures refused { GrammarRefusesLists }
+    ensures fits { NumbersFitTheGrammar }
+    ensures spells { GrammarSpellsLists }
+    ensures count { NumbersHaveOctets }
 {}

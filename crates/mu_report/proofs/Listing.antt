@@ -5,16 +5,21 @@ use Rattle.std.specs.List.{range_with_len, filter, All}
 use Rattle.std.proofs.lemmas.Bool.{cases_lt, cases_eq, cases_Bool}
 use Rattle.std.proofs.lemmas.Bool.Decides.{nat_tests}
 use Rattle.std.proofs.lemmas.List.Concat.{flat_map-append}
-use Rattle.std.proofs.lemmas.List.{append-nil, take_more, get_or-set_same, get_or-set_other, get_or-take, length-take-le}
+use Rattle.std.proofs.lemmas.List.FromFn.{filter_of_map_range_with_len_more}
+use Rattle.std.proofs.lemmas.List.{map-id, append-nil, take_more, get_or-set_same, get_or-set_other, get_or-take, length-take-le}
 use Rattle.std.proofs.lemmas.List.Elements.{All-push, Contains-push, Contains-push_cases, Contains-append_left}
 use Rattle.mu_model_wire.specs.Patterns.{pattern_spelling, list_spelling}
 use Rattle.mu_model_wire.specs.Reports.{has, members}
-use Rattle.mu_model_wire.proofs.ReportLaws.{filter_more}
 use Rattle.mu_report.specs.Words.{count_below, bit, word_bit, set_of_words, AreWords}
 use Rattle.mu_report.proofs.Counts.{count_add, count_same, count_past, count-suc, count-zero, members_count}
 use Rattle.mu_report.proofs.Bits.{has-set, set-length}
 
 -- ---- from one to the next
+
+filter_more : (p : ℕ → Bool) (n : ℕ) → filter p (range_with_len 0 (n + 1)) ≡ filter p (range_with_len 0 n) ++ cond (p n) (n ∷ []) []
+filter_more p n =
+    ap (filter p) (sym (map-id (range_with_len 0 (n + 1)))) ∙ filter_of_map_range_with_len_more p (λ (k : ℕ). k) 0 n n (omega arith)
+    ∙ ap (λ (xs : List ℕ). filter p xs ++ cond (p n) (n ∷ []) []) (map-id (range_with_len 0 n))
 
 skip : (p : ℕ → Bool) (at gap : ℕ) → ((i : ℕ) → at ≤ i → i < at + gap → p i ≡ false) → filter p (range_with_len 0 (at + gap)) ≡ filter p (range_with_len 0 at)
 skip p at zero none = let same : at + 0 ≡ at = omega arith in ap (λ (n : ℕ). filter p (range_with_len 0 n)) same

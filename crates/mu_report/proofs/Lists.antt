@@ -4,8 +4,7 @@ use Rattle.std.proofs.Math.Seq.{take-add}
 use Rattle.std.proofs.lemmas.List.{take-append-drop, append-nil, get_or-take, get_or-drop, length-take-le, take_at, get_or_append_left, take_more}
 use Rattle.std.proofs.lemmas.List.Concat.{flat_map-append}
 use Rattle.std.proofs.lemmas.List.Elements.{All-push, All-nil}
-use Rattle.mu_model_wire.specs.Patterns.{pattern_length, pattern_number, pattern_spelling, IsPattern, list_spelling, IsList, IsListFault}
-use Rattle.mu_model_wire.proofs.PatternLaws.{shortest, read}
+use Rattle.mu_model_wire.specs.Patterns.{pattern_length, pattern_number, pattern_spelling, IsPattern, list_spelling, IsList, IsListFault, ShortestPatternIsThePattern, PatternIsRead}
 
 spelling_more : (numbers : List ℕ) (n : ℕ) → list_spelling (numbers ++ n ∷ []) ≡ list_spelling numbers ++ pattern_spelling n
 spelling_more numbers n = flat_map-append pattern_spelling numbers (n ∷ []) ∙ ap (λ (xs : List ℕ). list_spelling numbers ++ xs) (append-nil (pattern_spelling n))
@@ -32,10 +31,10 @@ too_long numbers i n octets inside is so_far long =
 pub nothing : (octets : List ℕ) → IsList (take 0 octets) []
 nothing octets = record { numbers_fit = All-nil (λ (n : ℕ). n < 2 ^ 16); spelled = refl }
 
-pub more : (octets numbers : List ℕ) (at k n : ℕ) → IsList (take at octets) numbers → k ≤ length (drop at octets) → k ≡ pattern_length (get_or octets at 0)
+pub more : ShortestPatternIsThePattern → PatternIsRead → (octets numbers : List ℕ) (at k n : ℕ) → IsList (take at octets) numbers → k ≤ length (drop at octets) → k ≡ pattern_length (get_or octets at 0)
     → pattern_number (take k (drop at octets)) ≡ Some n → IsList (take (at + k) octets) (numbers ++ n ∷ [])
-more octets numbers at zero n before enough is e = absurd cc
-more octets numbers at (suc k) n before enough is e =
+more shortest read octets numbers at zero n before enough is e = absurd cc
+more shortest read octets numbers at (suc k) n before enough is e =
     let p = take (suc k) (drop at octets) in
     let first : get_or p 0 0 ≡ get_or octets at 0 = get_or-take (suc k) (drop at octets) 0 0 (omega arith) ∙ get_or-drop at octets 0 0 ∙ ap (λ (i : ℕ). get_or octets i 0) (omega arith) in
     let pattern = (read p n).1 (length-take-le (suc k) (drop at octets) enough ∙ is ∙ ap pattern_length (sym first), e) in
@@ -54,9 +53,9 @@ some_octets [] n h = absurd h
 some_octets (a ∷ p) n h = omega arith
 
 -- what a pattern at a place says
-in_front : (octets p others : List ℕ) (at n : ℕ) → drop at octets ≡ p ++ others → IsPattern p n
+in_front : PatternIsRead → (octets p others : List ℕ) (at n : ℕ) → drop at octets ≡ p ++ others → IsPattern p n
     → (length p ≡ pattern_length (get_or octets at 0)) × (length p ≤ length (drop at octets)) × (pattern_number (take (pattern_length (get_or octets at 0)) (drop at octets)) ≡ Some n)
-in_front octets p others at n e is =
+in_front read octets p others at n e is =
     let some = some_octets p n is in
     let r = (read p n).0 is in
     let first : get_or octets at 0 ≡ get_or p 0 0 =
@@ -65,25 +64,25 @@ in_front octets p others at n e is =
     let taken : take (pattern_length (get_or octets at 0)) (drop at octets) ≡ p = ap (λ (xs : List ℕ). take (pattern_length (get_or octets at 0)) xs) e ∙ take_at p others _ count in
     (count, omega (arith, ap (length {A = ℕ}) e, length-append p others), ap pattern_number taken ∙ r.1)
 
-pub cut : (octets numbers : List ℕ) (at k : ℕ) → IsList (take at octets) numbers → at < length octets → k ≡ pattern_length (get_or octets at 0)
+pub cut : PatternIsRead → (octets numbers : List ℕ) (at k : ℕ) → IsList (take at octets) numbers → at < length octets → k ≡ pattern_length (get_or octets at 0)
     → length (drop at octets) < k → IsListFault octets at true
-cut octets numbers at k before inside is few =
+cut read octets numbers at k before inside is few =
     let count = length-drop at octets in
     record {
       before = (numbers, before);
       within = inside;
-      bad = λ p others n e pattern. let f = in_front octets p others at n e pattern in omega arith;
+      bad = λ p others n e pattern. let f = in_front read octets p others at n e pattern in omega arith;
       cut_short = (λ h. omega arith, λ h. refl);
     }
 
-pub wrong : (octets numbers : List ℕ) (at k : ℕ) → IsList (take at octets) numbers → at < length octets → k ≡ pattern_length (get_or octets at 0)
+pub wrong : PatternIsRead → (octets numbers : List ℕ) (at k : ℕ) → IsList (take at octets) numbers → at < length octets → k ≡ pattern_length (get_or octets at 0)
     → k ≤ length (drop at octets) → pattern_number (take k (drop at octets)) ≡ None → IsListFault octets at false
-wrong octets numbers at k before inside is enough e =
+wrong read octets numbers at k before inside is enough e =
     let count = length-drop at octets in
     let none : pattern_number (take (pattern_length (get_or octets at 0)) (drop at octets)) ≡ None = ap (λ (m : ℕ). pattern_number (take m (drop at octets))) (sym is) ∙ e in
     record {
       before = (numbers, before);
       within = inside;
-      bad = λ p others n same pattern. let f = in_front octets p others at n same pattern in let clash = sym none ∙ f.2 in absurd cc;
+      bad = λ p others n same pattern. let f = in_front read octets p others at n same pattern in let clash = sym none ∙ f.2 in absurd cc;
       cut_short = (λ h. absurd cc, λ h. absurd (omega arith));
     }

@@ -9,9 +9,8 @@ use Rattle.std.proofs.lemmas.Bool.{cases_lt}
 use Rattle.std.proofs.lemmas.List.{get_or-drop, get_or-take, get_or-replicate, get_or_past, get_or_append_left, get_or-append_right, length-replicate, length-take-le, ext_get_or}
 use Rattle.std.proofs.lemmas.Nat.{shr-shr, shr_split}
 use Rattle.std.proofs.lemmas.Nat.Bits.{bit_at_cat_low, bit_at_cat_high, bit_at-zero, bit_at-lt, same_from_bits_below}
-use Rattle.mu_model_wire.specs.Reports.{field_bit, field_length, bit_field}
+use Rattle.mu_model_wire.specs.Reports.{field_bit, field_length, bit_field, BitFieldIsOfItsSet, BitFieldsAreOctets}
 use Rattle.mu_report.specs.Words.{bit, word_bit, set_of_words, AreWords}
-use Rattle.mu_model_wire.proofs.ReportLaws.{field_of_set, field_small}
 use Rattle.mu_report.proofs.Bits.{has-set, set-length}
 
 -- ---- from octets
@@ -163,9 +162,9 @@ same_fields a b count small_a small_b same =
     same_bits (bit_at (get_or a i 0) j) (bit_at (get_or b i 0) j) (bit_at-lt (get_or a i 0) j) (bit_at-lt (get_or b i 0) j) here))
 
 -- the first octets of the words are the bit field of their set
-pub field_is : (words : List ℕ) (bound : ℕ) → AreWords words bound
+pub field_is : BitFieldIsOfItsSet → BitFieldsAreOctets → (words : List ℕ) (bound : ℕ) → AreWords words bound
     → take ((bound + 7) / 8) (flat_map (little_bytes 8) words) ≡ bit_field (set_of_words words bound)
-field_is words bound are =
+field_is field_of_set field_small words bound are =
     let set = set_of_words words bound in
     let all = flat_map (little_bytes 8) words in
     let n = (bound + 7) / 8 in

@@ -1,23 +1,20 @@
 -- What reading a report gives.
-use Rattle.std.proofs.Common.{◌≡◌, ℕ, zero, suc, ◌≤◌, ◌↔◌, Bool, true, List, [], ◌∷◌, length, Option, Some, None, refl, sym, ap, subst, ◌∙◌, arith, length-append}
+use Rattle.std.proofs.Common.{◌≡◌, ℕ, zero, suc, ◌↔◌, Bool, true, List, ◌∷◌, length, Option, Some, None, refl, sym, ap, subst, ◌∙◌}
 use Rattle.std.specs.Prelude.{IfSome, IsSome}
 use Rattle.std.proofs.lemmas.List.{length-replicate}
 use Rattle.std.proofs.lemmas.Bool.{false≢true}
-use Rattle.std.proofs.lemmas.Bool.Decides.{nat_tests}
-use Rattle.mu_model_wire.specs.Patterns.{pattern_spelling, list_spelling}
-use Rattle.mu_model_wire.specs.Reports.{Reports, NamesASet, complement, no_number, every_number}
+use Rattle.mu_model_wire.specs.Reports.{Reports, NamesASet, ReportsNameOneSet, ReportsOfASetAreInOrder, complement, no_number, every_number}
 use Rattle.mu_model_wire.specs.declared.reports.Report.{Report}
 use Rattle.mu_model_wire.specs.declared.reports.Report.TheVariants.{All}
-use Rattle.mu_model_wire.proofs.ReportLaws.{one_set, in_order}
 
 same_some : (a b : List Bool) → Some a ≡ Some b → a ≡ b
 same_some a b e = cc
 
-pub exact : (shown : Report) (n : ℕ) (result : Option (List Bool)) → IfSome result (λ s. (length s ≡ n) × Reports shown s) → (NamesASet shown n → IsSome result)
+pub exact : ReportsNameOneSet → ReportsOfASetAreInOrder → (shown : Report) (n : ℕ) (result : Option (List Bool)) → IfSome result (λ s. (length s ≡ n) × Reports shown s) → (NamesASet shown n → IsSome result)
     → (set : List Bool) → (result ≡ Some set) ↔ ((length set ≡ n) × Reports shown set)
-exact shown n None names some set =
+exact one_set in_order shown n None names some set =
     (λ e. absurd cc, λ h. let P : ℕ → Type 0 = λ m. NamesASet shown m in absurd (false≢true (some (subst P h.0 (in_order shown set h.1)))))
-exact shown n (Some s) names some set = (
+exact one_set in_order shown n (Some s) names some set = (
   λ e. let P : List Bool → Type 0 = λ x. (length x ≡ n) × Reports shown x in subst P (same_some s set e) names,
   λ h. ap (λ (x : List Bool). Some x) (one_set shown s set (names.0 ∙ sym h.0) names.1 h.1),
 )
@@ -40,11 +37,3 @@ all_missing n empty made is e =
     let whole : made ≡ every_number n = e ∙ ap complement is ∙ complement_none n in
     let count : length made ≡ n = ap (length {A = Bool}) whole ∙ length-replicate n true in
     (count, whole ∙ ap every_number (sym count))
-
--- a list of patterns is no shorter than the numbers
-some_octet : (n : ℕ) → 1 ≤ length (pattern_spelling n)
-some_octet n = grind (arith, nat_tests)
-
-pub no_shorter : (numbers : List ℕ) → length numbers ≤ length (list_spelling numbers)
-no_shorter [] = omega arith
-no_shorter (n ∷ ns) = omega (arith, some_octet n, no_shorter ns, length-append (pattern_spelling n) (list_spelling ns))

@@ -4,6 +4,7 @@ ghost use Rattle.mu_model_wire.specs.Patterns.{pattern_length, pattern_number, p
 ghost use Rattle.arrayvec.specs.ArrayVec.{array_vec_len};
 
 use arrayvec::ArrayVec;
+use mu_model_wire::patterns::number_patterns;
 use thiserror::Error;
 
 /// The first bad number pattern of a list.
@@ -90,6 +91,7 @@ pub fn decode_list(bytes: &[u8]) -> Result<ArrayVec<u16, 379>, ListFault>
     ensures numbers { IfOk result (λ numbers. IsList bytes.now numbers.items) }
     ensures fault { IfErr result (λ fault. IsListFault bytes.now fault.at fault.cut) }
 {
+    number_patterns();
     let mut numbers = ArrayVec::new();
     let mut at = 0;
     while at < bytes.len() {

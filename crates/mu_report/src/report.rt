@@ -2,7 +2,7 @@ ghost use Rattle.std.specs.Prelude.{◌≡◌, ◌≤◌, ◌↔◌, Bool, List,
 ghost use Rattle.mu_model_wire.specs.Reports.{Reports, NamesASet, report_of};
 
 use crate::set::{NumberSet, field_length};
-use mu_model_wire::reports::Report;
+use mu_model_wire::reports::{Report, lists, reports};
 
 /// The report of a set of missing numbers, whose bound is at least 1: that all are missing, that
 /// none is, else a bit field unless the list of number patterns is strictly shorter.
@@ -10,6 +10,7 @@ pub fn report_of(set: &NumberSet) -> Report
     requires { 1 ≤ length set.now }
     ensures { result ≡ report_of set.now }
 {
+    lists();
     let count = set.count();
     let bound = set.bound();
     if count == bound {
@@ -32,6 +33,7 @@ pub fn read_report(report: &Report, n: u16) -> Option<NumberSet>
     ensures named { (set : List Bool) → (result ≡ Some set) ↔ ((length set ≡ n) × Reports report.now set) }
     ensures some { IsSome result ↔ NamesASet report.now n }
 {
+    reports();
     match report {
         Report::All => Some(NumberSet::new(n).missing()),
         Report::Nothing => Some(NumberSet::new(n)),

@@ -5,6 +5,7 @@ ghost use Rattle.mu_report.specs.Words.{AreBitsBelow, word_bit, count_below};
 
 use arrayvec::ArrayVec;
 use byteorder::{ByteOrder, LittleEndian};
+use mu_model_wire::reports::bit_fields;
 use std::marker::Model;
 
 /// A set of numbers below a bound, which is at most 2,048.
@@ -211,6 +212,7 @@ impl NumberSet {
     pub fn bit_field(&self) -> ArrayVec<u8, 374>
         ensures { result.items ≡ bit_field self.now }
     {
+        bit_fields();
         let mut octets = [0; 256];
         LittleEndian::write_u64_into(&self.words, &mut octets);
         let (used, _) = octets.split_at(field_length(self.bound) as usize);

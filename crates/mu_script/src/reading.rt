@@ -8,7 +8,7 @@ ghost use Rattle.mu_script.specs.Words.{row};
 
 use crate::cursor::Tokens;
 use crate::events::Event;
-use mu_model_script::{LineFault, LineWhy};
+use mu_model_script::{LineFault, LineWhy, event_is_in_range};
 
 /// The first token of a line.
 enum Word {
@@ -196,6 +196,7 @@ pub fn read_line(line: &[u8]) -> Result<Option<Event>, LineFault>
     ensures reads { Gives (λ e. option_map event e) result (line_event line.now) }
     ensures in_range { IfOk result (λ read. IfSome read (λ e. IsInRange (event e))) }
 {
+    event_is_in_range();
     if line.len() > 4096 {
         return Err(LineFault {
             at: 4096,

@@ -7,6 +7,7 @@ ghost use Rattle.mu_updmsg.specs.View.{view, entry_shown};
 use crate::message::{Entry, UpdMsg};
 use arrayvec::ArrayVec;
 use mu_codec::{Cursor, Refusal, Why};
+use mu_model_wire::laws::{entries_are_read_in_turn, reads_what_is_spelled};
 
 /// The message that the octets spell, or the first place where they spell none.
 pub fn read<'a>(bytes: &'a [u8]) -> Result<UpdMsg<'a>, Refusal>
@@ -15,6 +16,7 @@ pub fn read<'a>(bytes: &'a [u8]) -> Result<UpdMsg<'a>, Refusal>
     // What is read can be written.
     ensures fits { IfOk result (λ m. Fits update_rows (view m)) }
 {
+    reads_what_is_spelled();
     decoded(bytes)
 }
 
@@ -68,6 +70,7 @@ fn entries<'a>(cursor: &mut Cursor<'a>) -> Result<ArrayVec<Entry<'a>, 94>, Refus
     requires { length cursor.old.octets ≤ 378 }
     ensures { Gives (λ v. map entry_shown v.items) result (entries_at (length cursor.old.octets) entry_fields cursor.old) }
 {
+    entries_are_read_in_turn();
     let mut entries = ArrayVec::new();
     while cursor.left() > 0 {
         let entry = entry(cursor)?;

@@ -7,6 +7,7 @@ ghost use Rattle.mu_updmsg.specs.View.{view, entry_shown};
 
 use crate::message::{Entry, UpdMsg};
 use mu_codec::{Payload, put_octets, put_u8, put_u16, put_u64};
+use mu_model_wire::laws::canonical_is_read;
 
 /// The canonical octets of a message in range: its unused bits are 0.
 pub fn write(msg: &UpdMsg) -> Payload
@@ -15,6 +16,7 @@ pub fn write(msg: &UpdMsg) -> Payload
     // Reading them gives the message back.
     ensures again { message_at update_rows result.items ≡ Ok (view msg.now) }
 {
+    canonical_is_read();
     spelled(msg)
 }
 

@@ -1,6 +1,6 @@
 use Rattle.std.proofs.Common.{◌≤◌, ◌+◌, ◌*◌, length, map}
 use Rattle.mu_model_wire.specs.Reading.{entries_at}
-use Rattle.mu_model_wire.proofs.Loops.{StillReads}
+use Rattle.mu_model_wire.specs.Entries.{StillReads}
 use Rattle.mu_model_wire.specs.Distribution.{receiver_fields}
 use Rattle.mu_distmsg.specs.View.{pair_shown}
 use Rattle.mu_distmsg.proofs.reading.receivers.Given as goal

@@ -1,7 +1,7 @@
 use Rattle.std.proofs.Common.{◌≤◌, ◌+◌, ◌*◌, length, map}
 use Rattle.std.specs.List.{All}
 use Rattle.mu_model_wire.specs.Reading.{entries_at}
-use Rattle.mu_model_wire.proofs.Loops.{StillReads}
+use Rattle.mu_model_wire.specs.Entries.{StillReads}
 use Rattle.mu_model_wire.specs.Distribution.{row_fields}
 use Rattle.mu_distmsg.specs.View.{row_shown, RowIsEven}
 use Rattle.mu_distmsg.proofs.reading.rows.Given as goal

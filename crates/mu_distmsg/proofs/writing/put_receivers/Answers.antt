@@ -1,5 +1,5 @@
 use Rattle.std.proofs.Common.{arith}
-use Rattle.mu_model_wire.proofs.Loops.{room}
+use Rattle.mu_distmsg.proofs.Entries.{room}
 use Rattle.mu_model_wire.specs.Distribution.{receiver_fields}
 use Rattle.mu_distmsg.specs.View.{pair_shown}
 use Rattle.mu_distmsg.proofs.writing.put_receivers.Goals as goal

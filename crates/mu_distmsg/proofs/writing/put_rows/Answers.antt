@@ -1,4 +1,4 @@
-use Rattle.mu_model_wire.proofs.Loops.{room, fits_at}
+use Rattle.mu_distmsg.proofs.Entries.{room, fits_at}
 use Rattle.mu_model_wire.specs.Distribution.{row_fields}
 use Rattle.mu_distmsg.specs.View.{row_shown}
 use Rattle.mu_distmsg.proofs.writing.put_rows.Goals as goal

@@ -1,6 +1,6 @@
 use Rattle.std.proofs.Common.{◌≤◌, ◌+◌, ◌*◌, length, map}
 use Rattle.mu_model_wire.specs.Reading.{entries_at}
-use Rattle.mu_model_wire.proofs.Loops.{StillReads}
+use Rattle.mu_model_wire.specs.Entries.{StillReads}
 use Rattle.mu_model_wire.specs.Update.{entry_fields}
 use Rattle.mu_updmsg.specs.View.{entry_shown}
 use Rattle.mu_updmsg.proofs.reading.entries.Given as goal

@@ -1,5 +1,5 @@
 use Rattle.std.proofs.Common.{[]}
-use Rattle.mu_model_wire.proofs.Loops.{room, fits_at}
+use Rattle.mu_updmsg.proofs.Entries.{room, fits_at}
 use Rattle.mu_model_wire.specs.Update.{entry_fields}
 use Rattle.mu_updmsg.specs.View.{entry_shown}
 use Rattle.mu_updmsg.proofs.writing.put_entries.Goals as goal

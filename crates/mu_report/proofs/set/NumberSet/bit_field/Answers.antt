@@ -7,7 +7,7 @@ use Rattle.mu_report.proofs.set.NumberSet.bit_field.Goals as goal
 
 pub returns-else-is_err : goal.returns-else-is_err
 returns-else-is_err c =
-    let field = field_is c.self.inside.words c.self.inside.bound c.self.invariant in
+    let field = field_is c.bit_fields.ensures.of_a_set c.bit_fields.ensures.octets c.self.inside.words c.self.inside.bound c.self.invariant in
     let pushed : c.try_extend_from_slice.new.self.items ≡ c.new-field.result.items ++ c.split_at.result.0.now = search rules in
     let all : c.write_u64_into.new.dst ≡ flat_map (little_bytes 8) c.self.inside.words = c.write_u64_into.ensures in
     pushed ∙ ap (λ (xs : List ℕ). xs ++ c.split_at.result.0.now) c.new-field.ensures ∙ c.split_at.ensures.front
