@@ -94,17 +94,6 @@ abbrev pub is_ended : Place → Bool
 is_ended (Ended part) = true
 is_ended _ = false
 
-abbrev pub is_past_transfer : Part → Bool
-is_past_transfer Transferring = false
-is_past_transfer _ = true
-
--- the verification has ended, by its step or because nobody was left for it
-abbrev pub is_verified : Place → Bool
-is_verified (Ended part) = true
-is_verified Verified = true
-is_verified (At step) = is_past_transfer (part_of step)
-is_verified (Before step) = is_past_transfer (part_of step)
-
 abbrev pub cause_of : Standing → Option Dropped
 cause_of (Gone cause) = Some cause
 cause_of _ = None

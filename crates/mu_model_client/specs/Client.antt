@@ -10,13 +10,27 @@ pub use Rattle.mu_model_client.specs.declared.Sending.{Sending}
 pub use Rattle.mu_model_client.specs.declared.Plan.{Plan}
 pub use Rattle.mu_model_client.specs.declared.Dropped.{Dropped}
 pub use Rattle.mu_model_client.specs.declared.Dropped.TheVariants.{Silent, Status, Barren, Phase}
+use Rattle.mu_model_client.specs.declared.Purpose.{Purpose as PurposeInCode}
+use Rattle.mu_model_client.specs.declared.Purpose.TheVariants as purpose_in_code
+use Rattle.mu_model_client.specs.declared.Step.{Step as StepInCode}
+use Rattle.mu_model_client.specs.declared.Step.TheVariants as step_in_code
+use Rattle.mu_model_client.specs.declared.Part.{Part as PartInCode}
+use Rattle.mu_model_client.specs.declared.Part.TheVariants as part_in_code
+use Rattle.mu_model_client.specs.declared.Standing.{Standing as StandingInCode}
+use Rattle.mu_model_client.specs.declared.Standing.TheVariants as standing_in_code
+use Rattle.mu_model_client.specs.declared.Place.{Place as PlaceInCode}
+use Rattle.mu_model_client.specs.declared.Place.TheVariants as place_in_code
 
 -- ---- what is sent, and what for
 
--- a BLOB alone; or an update with the image's metadata, and whether it is applied once verified
-pub data Purpose : Type 0 where
-  Blob : Purpose
-  Update : Meta → (apply : Bool) → Purpose
+abbrev pub Purpose : Type 0
+Purpose = PurposeInCode
+
+pattern abbrev pub Blob : Purpose
+Blob = purpose_in_code.Blob
+
+pattern abbrev pub Update : Meta → Bool → Purpose
+Update x y = purpose_in_code.Update x y
 
 -- blocks of the BLOB, chunks of a block, and chunks of a full block
 abbrev pub block_total : Sending → ℕ
@@ -37,22 +51,44 @@ is_push p = p.mode == 1
 
 -- ---- steps
 
-pub data Step : Type 0 where
-  Check : Step
-  Start : Step
-  Information : Step
-  Transfer : Step
-  Block : (block : ℕ) → Step
-  -- in push
-  Chunks : (block : ℕ) → Step
-  -- in pull
-  Pull : (block : ℕ) → Step
-  -- in push
-  Get : (block : ℕ) → Step
-  Verify : Step
-  Apply : Step
-  Confirm : Step
-  Cancel : Step
+abbrev pub Step : Type 0
+Step = StepInCode
+
+pattern abbrev pub Check : Step
+Check = step_in_code.Check
+
+pattern abbrev pub Start : Step
+Start = step_in_code.Start
+
+pattern abbrev pub Information : Step
+Information = step_in_code.Information
+
+pattern abbrev pub Transfer : Step
+Transfer = step_in_code.Transfer
+
+pattern abbrev pub Block : ℕ → Step
+Block x = step_in_code.Block x
+
+pattern abbrev pub Chunks : ℕ → Step
+Chunks x = step_in_code.Chunks x
+
+pattern abbrev pub Pull : ℕ → Step
+Pull x = step_in_code.Pull x
+
+pattern abbrev pub Get : ℕ → Step
+Get x = step_in_code.Get x
+
+pattern abbrev pub Verify : Step
+Verify = step_in_code.Verify
+
+pattern abbrev pub Apply : Step
+Apply = step_in_code.Apply
+
+pattern abbrev pub Confirm : Step
+Confirm = step_in_code.Confirm
+
+pattern abbrev pub Cancel : Step
+Cancel = step_in_code.Cancel
 
 abbrev pub step_number : Step → ℕ
 step_number Check = 1
@@ -68,12 +104,19 @@ step_number Apply = 9
 step_number Confirm = 10
 step_number Cancel = 11
 
--- the parts of an update, and the part that a step belongs to
-pub data Part : Type 0 where
-  Transferring : Part
-  Applying : Part
-  Cancelling : Part
+abbrev pub Part : Type 0
+Part = PartInCode
 
+pattern abbrev pub Transferring : Part
+Transferring = part_in_code.Transferring
+
+pattern abbrev pub Applying : Part
+Applying = part_in_code.Applying
+
+pattern abbrev pub Cancelling : Part
+Cancelling = part_in_code.Cancelling
+
+-- the part that a step belongs to
 abbrev pub part_of : Step → Part
 part_of Apply = Applying
 part_of Confirm = Applying
@@ -82,11 +125,17 @@ part_of _ = Transferring
 
 -- ---- receivers
 
-pub data Standing : Type 0 where
-  -- not begun with
-  Idle : Standing
-  Active : Standing
-  Gone : Dropped → Standing
+abbrev pub Standing : Type 0
+Standing = StandingInCode
+
+pattern abbrev pub Idle : Standing
+Idle = standing_in_code.Idle
+
+pattern abbrev pub Active : Standing
+Active = standing_in_code.Active
+
+pattern abbrev pub Gone : Dropped → Standing
+Gone x = standing_in_code.Gone x
 
 pub record Receiver : Type 0 where
   pub row : Row
@@ -154,14 +203,20 @@ pub data Item : Type 0 where
   Says : (to : ℕ) → Request → Item
   Sends : (to block chunk : ℕ) → Item
 
-pub data Place : Type 0 where
-  -- the step begins in the next time event
-  Before : Step → Place
-  At : Step → Place
-  -- the verification has ended, and nothing is applied yet
-  Verified : Place
-  -- this part has ended, and with it the client
-  Ended : Part → Place
+abbrev pub Place : Type 0
+Place = PlaceInCode
+
+pattern abbrev pub Before : Step → Place
+Before x = place_in_code.Before x
+
+pattern abbrev pub At : Step → Place
+At x = place_in_code.At x
+
+pattern abbrev pub Verified : Place
+Verified = place_in_code.Verified
+
+pattern abbrev pub Ended : Part → Place
+Ended x = place_in_code.Ended x
 
 pub record Client : Type 0 where
   pub sending : Sending

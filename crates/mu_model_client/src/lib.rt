@@ -47,6 +47,64 @@ pub enum Dropped {
     Phase(u8),
 }
 
+/// What a client is for.
+#[derive(Clone, Copy, Debug, PartialEq, Eq)]
+pub enum Purpose {
+    /// A BLOB alone.
+    Blob,
+    /// An update with the image's metadata, and whether it is applied once verified.
+    Update(Meta, bool),
+}
+
+/// A step of a client, in the order of its table; those of a block with its number.
+#[derive(Clone, Copy, Debug, PartialEq, Eq)]
+pub enum Step {
+    Check,
+    Start,
+    Information,
+    Transfer,
+    Block(u16),
+    /// In push.
+    Chunks(u16),
+    /// In pull.
+    Pull(u16),
+    /// In push.
+    Get(u16),
+    Verify,
+    Apply,
+    Confirm,
+    Cancel,
+}
+
+/// A part of an update.
+#[derive(Clone, Copy, Debug, PartialEq, Eq)]
+pub enum Part {
+    Transferring,
+    Applying,
+    Cancelling,
+}
+
+/// How a receiver stands.
+#[derive(Clone, Copy, Debug, PartialEq, Eq)]
+pub enum Standing {
+    /// Not begun with.
+    Idle,
+    Active,
+    Gone(Dropped),
+}
+
+/// Where a client is in its steps.
+#[derive(Clone, Copy, Debug, PartialEq, Eq)]
+pub enum Place {
+    /// The step begins in the next time event.
+    Before(Step),
+    At(Step),
+    /// The verification has ended, and nothing is applied yet.
+    Verified,
+    /// This part has ended, and with it the client.
+    Ended(Part),
+}
+
 /// How far an update client is.
 #[derive(Clone, Copy, Debug, PartialEq, Eq)]
 pub enum Stage {

@@ -1,11 +1,10 @@
 -- What is sent, what for, and to whom, stays.
 use Rattle.std.proofs.Common.{◌≡◌, ◌==◌, ℕ, List, [], ◌∷◌, refl, ap, ◌∙◌, true, false, Bool, Option, Some, None, map}
 use Rattle.std.specs.Prelude.{if◌then◌else◌, nat_le, nat_lt}
-use Rattle.std.specs.List.{list_any}
 use Rattle.mu_model_client.specs.Answers.{Answer, FromUpdate, FromBlob}
 use Rattle.mu_model_client.specs.Rows.{Row, rank, with_phase}
 use Rattle.mu_model_client.specs.declared.Sending.{Sending}
-use Rattle.mu_model_client.specs.Client.{Purpose, Blob, Update, Step, Check, Start, Information, Transfer, Block, Chunks, Pull, Get, Verify, Apply, Confirm, Cancel, Receiver, Client, at_moment, rows, row_of, is_in}
+use Rattle.mu_model_client.specs.Client.{Purpose, Blob, Update, Step, Check, Start, Information, Transfer, Block, Chunks, Pull, Get, Verify, Apply, Confirm, Cancel, Receiver, Client, at_moment, row_of, is_in}
 use Rattle.mu_model_client.specs.Begin as b
 use Rattle.mu_model_client.specs.Told as t
 use Rattle.mu_model_client.specs.Told.{told}
@@ -149,13 +148,6 @@ due_plan c image now =
     (let h = each_way c image now (λ e. SamePlan (at_moment c now) e.next) (plan_ways (at_moment c now) image) in
     record { sending = h.sending; purpose = h.purpose; addresses = h.addresses; indexes = h.indexes })
 
-by_rows_plan : (c : Client) (image : List ℕ) (now : ℕ) (some : Bool)
-    → SamePlan c (if some then due c image now else (d.with_purpose c.purpose (due (record c { purpose = d.held_back c.purpose }) image now))).next
-by_rows_plan c image now true = due_plan c image now
-by_rows_plan c image now false =
-    (let h = due_plan (record c { purpose = d.held_back c.purpose }) image now in
-    record { sending = h.sending; purpose = refl; addresses = h.addresses; indexes = h.indexes })
-
 canceled_same : (row : Row) (below : Bool)
     → ((if below then with_phase 7 row else row).address ≡ row.address) × ((if below then with_phase 7 row else row).index ≡ row.index)
 canceled_same row true = (refl, refl)
@@ -165,7 +157,6 @@ pub plans_stay : KeepsPlan
 plans_stay = record {
   tells = told_plan;
   dues = due_plan;
-  by_rows = λ c image now. by_rows_plan c image now (list_any d.has_verified (rows c));
   applies = λ c. unchanged c (b.take_apply c) refl refl refl;
   cancels = λ c. changed c (b.take_cancel c) b.canceled (record { address = λ r. (canceled_same r.row (nat_lt (rank r.row.phase) 5)).0; index = λ r. (canceled_same r.row (nat_lt (rank r.row.phase) 5)).1 }) refl refl refl;
 }

@@ -17,7 +17,7 @@ use Rattle.mu_model_client.specs.Client.{Purpose, Blob, Update, Step, Chunks, Ca
 use Rattle.mu_model_client.specs.Begin.{start, start_blob, resume, take_apply, take_cancel}
 use Rattle.mu_model_client.specs.Told.{told}
 use Rattle.mu_model_client.specs.Lists.{chunk_items, lacks_chunk, missing_of, sent_for}
-use Rattle.mu_model_client.specs.Due.{Due, due, due_by_rows, silent_after, fell_silent, is_empty}
+use Rattle.mu_model_client.specs.Due.{Due, due, silent_after, fell_silent, is_empty}
 
 -- R holds of the receivers at each place, and there are as many
 abbrev pub Each : (Receiver → Receiver → Type 0) → List Receiver → List Receiver → Type 0
@@ -37,7 +37,6 @@ pub record SamePlan (before after : Client) : Type 0 where
 pub record KeepsPlan : Type 0 where
   pub tells : (c : Client) (from : ℕ) (answer : Answer) (now : ℕ) → SamePlan c (told c from answer now)
   pub dues : (c : Client) (image : List ℕ) (now : ℕ) → SamePlan c (due c image now).next
-  pub by_rows : (c : Client) (image : List ℕ) (now : ℕ) → SamePlan c (due_by_rows c image now).next
   pub applies : (c : Client) → SamePlan c (take_apply c)
   pub cancels : (c : Client) → SamePlan c (take_cancel c)
 
