@@ -1,5 +1,5 @@
--- What a packet from a receiver does: first to its row, then, where the receiver is pending, by the step. One definition a step,
--- in the order of the client's table (MshMBT, BLOB Transfer Client; MshDFU, Firmware Update Client; what drops a receiver is
+-- What a packet from a receiver does: first to its row, while the transfer is present; then, where the receiver is pending, by the
+-- step. One definition a step, in the order of the client's table (MshMBT, BLOB Transfer Client; MshDFU, Firmware Update Client; what drops a receiver is
 -- this profile's).
 use Rattle.std.specs.Prelude.{ℕ, ◌+◌, ◌-◌, ◌*◌, ◌/◌, ◌==◌, ◌&&◌, ◌||◌, not, min, nat_lt, nat_le, Bool, true, false, List, [], ◌∷◌, length, map, take, set, Option, Some, None, if◌then◌else◌}
 use Rattle.mu_model_wire.specs.Reports.{members, no_number, union}
@@ -9,7 +9,7 @@ use Rattle.mu_model_node.specs.UpdateMessages.{ShownJob, UpdateReply, MetadataSt
 use Rattle.mu_model_client.specs.Sets.{has_some, size_of, set_of, all_below, set_of_field, named_set}
 use Rattle.mu_model_client.specs.Answers.{Limits, BlobAnswer, InformationIs, TransferIs, BlockIs, PartIs, Answer, FromUpdate, FromBlob}
 use Rattle.mu_model_client.specs.Rows.{row_after, apply_success}
-use Rattle.mu_model_client.specs.Client.{Sending, Dropped, Status, Barren, Phase, Purpose, Blob, Update, Step, Check, Start, Information, Transfer, Block, Pull, Get, Verify, Apply, Confirm, Cancel, step_number, Gone, Receiver, Place, At, Client, at_moment, block_total, chunk_total, full_chunks, is_push}
+use Rattle.mu_model_client.specs.Client.{Sending, Dropped, Status, Barren, Phase, Purpose, Blob, Update, Step, Check, Start, Information, Transfer, Block, Pull, Get, Verify, Apply, Confirm, Cancel, step_number, Part, Cancelling, part_of, Gone, Receiver, Place, Before, At, Verified, Ended, Client, at_moment, block_total, chunk_total, full_chunks, is_push}
 
 -- ---- what an answer does to a receiver
 
@@ -245,8 +245,24 @@ abbrev pub row_told : Sending → Answer → Receiver → Purpose → Receiver
 row_told p answer r Blob = r
 row_told p answer r (Update offered apply) = record r { row = row_after p.id offered r.row answer }
 
+-- whether the transfer is present: not once it is being canceled
+abbrev pub is_canceled : Part → Bool
+is_canceled Cancelling = true
+is_canceled _ = false
+
+abbrev pub is_present : Place → Bool
+is_present (Before step) = not (is_canceled (part_of step))
+is_present (At step) = not (is_canceled (part_of step))
+is_present (Ended part) = not (is_canceled part)
+is_present Verified = true
+
+-- a packet counts for its row while the transfer is present (this profile)
+abbrev pub row_counted : Sending → Answer → Receiver → Purpose → (present : Bool) → Receiver
+row_counted p answer r purpose true = row_told p answer r purpose
+row_counted p answer r purpose false = r
+
 abbrev pub receiver_told : Client → Answer → Receiver → Receiver
-receiver_told c answer r = place_told c.sending answer (row_told c.sending answer r c.purpose) c.place
+receiver_told c answer r = place_told c.sending answer (row_counted c.sending answer r c.purpose (is_present c.place)) c.place
 
 abbrev pub told_if : Client → Answer → Receiver → Bool → Receiver
 told_if c answer r true = receiver_told c answer r

@@ -60,8 +60,12 @@ with_row : (c : Client) (answer : Answer) (r : Receiver) (purpose : Purpose) →
 with_row c answer r Blob a k = place_stays c.sending answer r c.place a k
 with_row c answer r (Update offered apply) a k = place_stays c.sending answer (t.row_told c.sending answer r (Update offered apply)) c.place (record { may = a.may; few = a.few }) k
 
+with_counted : (c : Client) (answer : Answer) (r : Receiver) (present : Bool) → IsAsked c.place r → is_active r ≡ false → (t.place_told c.sending answer (t.row_counted c.sending answer r c.purpose present) c.place).standing ≡ r.standing
+with_counted c answer r true a k = with_row c answer r c.purpose a k
+with_counted c answer r false a k = place_stays c.sending answer r c.place a k
+
 told_stays : (c : Client) (answer : Answer) (r : Receiver) (is_from : Bool) → IsAsked c.place r → StaysGone r (t.told_if c answer r is_from)
-told_stays c answer r true a = record { stays = λ k. with_row c answer r c.purpose a k }
+told_stays c answer r true a = record { stays = λ k. with_counted c answer r (t.is_present c.place) a k }
 told_stays c answer r false a = record { stays = λ k. refl }
 
 all_stay : (c : Client) (from : ℕ) (answer : Answer) (rs : List Receiver) → AllByRecursion (IsAsked c.place) rs → Each StaysGone rs (map (λ r. t.told_if c answer r (r.row.address == from)) rs)

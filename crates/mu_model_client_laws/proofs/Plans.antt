@@ -60,13 +60,18 @@ row_kept p answer r Blob = (refl, refl)
 row_kept p (FromUpdate reply) r (Update offered apply) = (refl, refl)
 row_kept p (FromBlob answer) r (Update offered apply) = (refl, refl)
 
+kept_while : (p : Sending) (answer : Answer) (r : Receiver) (purpose : Purpose) (present : Bool)
+    → ((t.row_counted p answer r purpose present).row.address ≡ r.row.address) × ((t.row_counted p answer r purpose present).row.index ≡ r.row.index)
+kept_while p answer r purpose true = row_kept p answer r purpose
+kept_while p answer r purpose false = (refl, refl)
+
 told_kept : (c : Client) (answer : Answer) (r : Receiver) (is_from : Bool)
     → ((t.told_if c answer r is_from).row.address ≡ r.row.address) × ((t.told_if c answer r is_from).row.index ≡ r.row.index)
 told_kept c answer r false = (refl, refl)
 told_kept c answer r true =
-    let x : Receiver = t.row_told c.sending answer r c.purpose in
+    let x : Receiver = t.row_counted c.sending answer r c.purpose (t.is_present c.place) in
     let fated = f.by_place x c.sending answer c.place in
-    let kept = row_kept c.sending answer r c.purpose in
+    let kept = kept_while c.sending answer r c.purpose (t.is_present c.place) in
     (fated.address ∙ kept.0, fated.index ∙ kept.1)
 
 pub told_plan : (c : Client) (from : ℕ) (answer : Answer) (now : ℕ) → SamePlan c (told c from answer now)

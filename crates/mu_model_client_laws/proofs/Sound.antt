@@ -55,11 +55,15 @@ told_row p answer r Blob = same_rises r.row.phase r.row.phase refl
 told_row p answer r (Update offered apply) =
     cause_rises p.id offered r.row answer (row_after p.id offered r.row answer).phase (of_answer p.id offered r.row answer)
 
+told_counted : (p : Sending) (answer : Answer) (r : Receiver) (purpose : Purpose) (present : Bool) → Rises r.row.phase (t.row_counted p answer r purpose present).row.phase
+told_counted p answer r purpose true = told_row p answer r purpose
+told_counted p answer r purpose false = same_rises r.row.phase r.row.phase refl
+
 pub receiver_rises : (c : Client) (answer : Answer) (r : Receiver) → RowRises r (t.receiver_told c answer r)
 receiver_rises c answer r =
-    let x : Receiver = t.row_told c.sending answer r c.purpose in
+    let x : Receiver = t.row_counted c.sending answer r c.purpose (t.is_present c.place) in
     let fated = f.by_place x c.sending answer c.place in
-    let grows = told_row c.sending answer r c.purpose in
+    let grows = told_counted c.sending answer r c.purpose (t.is_present c.place) in
     let rises = same_rises x.row.phase (t.place_told c.sending answer x c.place).row.phase fated.phase in
     record {
       rank_kept = omega (arith, grows.rank_kept, rises.rank_kept);
@@ -80,12 +84,24 @@ said_phase : (p : Sending) (answer : Answer) (r : Receiver) (purpose : Purpose) 
 said_phase p answer r Blob = refl
 said_phase p answer r (Update offered apply) = refl
 
+counted_phase : (p : Sending) (answer : Answer) (r : Receiver) (purpose : Purpose) (present : Bool) → present ≡ true → (t.row_counted p answer r purpose present).row.phase ≡ phase_said p.id purpose r.row answer
+counted_phase p answer r purpose true e = said_phase p answer r purpose
+counted_phase p answer r purpose false e = f.never e
+
+uncounted_phase : (p : Sending) (answer : Answer) (r : Receiver) (purpose : Purpose) (present : Bool) → present ≡ false → (t.row_counted p answer r purpose present).row.phase ≡ r.row.phase
+uncounted_phase p answer r purpose true e = f.never (sym e)
+uncounted_phase p answer r purpose false e = refl
+
 told_follows : (c : Client) (from : ℕ) (answer : Answer) (r : Receiver) (is_from : Bool) → (r.row.address == from) ≡ is_from → FollowsPacket c from answer r (t.told_if c answer r is_from)
 told_follows c from answer r true e =
-    let x : Receiver = t.row_told c.sending answer r c.purpose in
+    let x : Receiver = t.row_counted c.sending answer r c.purpose (t.is_present c.place) in
     let phase = (f.by_place x c.sending answer c.place).phase in
-    record { theirs = λ k. phase ∙ said_phase c.sending answer r c.purpose; others = λ k. absurd (k (eqb-true r.row.address from e)) }
-told_follows c from answer r false e = record { theirs = λ k. absurd (not_same k); others = λ k. refl }
+    record {
+      theirs = λ p k. phase ∙ counted_phase c.sending answer r c.purpose (t.is_present c.place) p;
+      others = λ k. absurd (k (eqb-true r.row.address from e));
+      canceled = λ p. phase ∙ uncounted_phase c.sending answer r c.purpose (t.is_present c.place) p;
+    }
+told_follows c from answer r false e = record { theirs = λ p k. absurd (not_same k); others = λ k. refl; canceled = λ p. refl }
   where
     not_same : r.row.address ≡ from → ⊥
     not_same k = grind (arith, nat_tests)
@@ -109,10 +125,15 @@ module _ (place : Place) where
   row_asked p answer r Blob a = a
   row_asked p answer r (Update offered apply) a = record { may = a.may; few = a.few }
 
+asked_while : (place : Place) (p : Sending) (answer : Answer) (r : Receiver) (purpose : Purpose) (present : Bool) → IsAsked place r → IsAsked place (t.row_counted p answer r purpose present)
+asked_while place p answer r purpose true a = row_asked place p answer r purpose a
+asked_while place p answer r purpose false a = a
+
 told_asked : (c : Client) (answer : Answer) (r : Receiver) (is_from : Bool) → IsAsked c.place r → IsAsked c.place (t.told_if c answer r is_from)
 told_asked c answer r true a =
-    let x : Receiver = t.row_told c.sending answer r c.purpose in
-    fated_asked c.place x (t.place_told c.sending answer x c.place) (f.by_place x c.sending answer c.place) (row_asked c.place c.sending answer r c.purpose a)
+    let x : Receiver = t.row_counted c.sending answer r c.purpose (t.is_present c.place) in
+    fated_asked c.place x (t.place_told c.sending answer x c.place) (f.by_place x c.sending answer c.place)
+    (asked_while c.place c.sending answer r c.purpose (t.is_present c.place) a)
 told_asked c answer r false a = a
 
 pub told_sound : (c : Client) (from : ℕ) (answer : Answer) (now : ℕ) → IsSound c → IsSound (told c from answer now)

@@ -1,6 +1,6 @@
 -- Worked rows, evaluated.
 use Rattle.std.proofs.Common.{refl}
-use Rattle.mu_model_client_laws.specs.Worked.{RepairsTheUnion, Completes, DropsTheSilent, DropsByStatus, EachStatusDrops, DropsOthers, GoesOn}
+use Rattle.mu_model_client_laws.specs.Worked.{RepairsTheUnion, Completes, DropsTheSilent, DropsByStatus, EachStatusDrops, DropsOthers, GoesOn, CancellingTellsTheRound}
 
 pub repairs : RepairsTheUnion
 repairs = record { grouped = refl; alone = refl }
@@ -58,3 +58,6 @@ others = record { barren = refl; four = refl; transfer_error = refl; verificatio
 
 pub goes_on : GoesOn
 goes_on = record { transfer = refl; verified = refl; applying = refl; canceling = refl; rows_stay = refl; sent = refl; stages = refl }
+
+pub cancels : CancellingTellsTheRound
+cancels = record { rows_stay = refl; asked = refl; answered = refl; present = refl }

@@ -15,7 +15,7 @@ use Rattle.mu_model_client.specs.Answers.{Answer, FromUpdate}
 use Rattle.mu_model_client.specs.Rows.{Row, rank, is_reported, apply_success, apply_failed, phase_unknown, transfer_canceled, row_after}
 use Rattle.mu_model_client.specs.Client.{Purpose, Blob, Update, Step, Chunks, Cancel, Receiver, is_active, Item, Says, Sends, Place, At, Verified, Client, rows, chunk_total, round_time, Apply}
 use Rattle.mu_model_client.specs.Begin.{start, start_blob, resume, take_apply, take_cancel}
-use Rattle.mu_model_client.specs.Told.{told}
+use Rattle.mu_model_client.specs.Told.{is_present, told}
 use Rattle.mu_model_client.specs.Lists.{chunk_items, lacks_chunk, missing_of, sent_for}
 use Rattle.mu_model_client.specs.Due.{Due, due, silent_after, fell_silent, is_empty}
 
@@ -82,10 +82,11 @@ phase_said id Blob row answer = row.phase
 phase_said id (Update offered apply) row answer = (row_after id offered row answer).phase
 
 pub record FollowsPacket (c : Client) (from : ℕ) (answer : Answer) (before after : Receiver) : Type 0 where
-  pub theirs : before.row.address ≡ from → after.row.phase ≡ phase_said c.sending.id c.purpose before.row answer
+  pub theirs : is_present c.place ≡ true → before.row.address ≡ from → after.row.phase ≡ phase_said c.sending.id c.purpose before.row answer
   pub others : (before.row.address ≡ from → ⊥) → after.row.phase ≡ before.row.phase
+  pub canceled : is_present c.place ≡ false → after.row.phase ≡ before.row.phase
 
--- a packet changes the phases of its source's rows to what it says of them, and no others
+-- a packet changes the phases of its source's rows to what it says of them, and no others; none once the transfer is being canceled
 abbrev pub RowsFollowPackets : Type 0
 RowsFollowPackets = (c : Client) (from : ℕ) (answer : Answer) (now : ℕ) → Each (FollowsPacket c from answer) c.receivers (told c from answer now).receivers
 

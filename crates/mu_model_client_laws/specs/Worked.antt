@@ -1,5 +1,5 @@
 -- Worked rows: what a client sends, and how each drop of the client's table comes and is shown.
-use Rattle.std.specs.Prelude.{ℕ, zero, suc, ◌≡◌, ◌+◌, ◌*◌, Bool, true, false, List, [], ◌∷◌, ◌++◌, map, replicate, Option, Some, None, length}
+use Rattle.std.specs.Prelude.{ℕ, zero, suc, ◌≡◌, ◌==◌, ◌+◌, ◌*◌, Bool, true, false, List, [], ◌∷◌, ◌++◌, map, replicate, Option, Some, None, length}
 use Rattle.mu_model_image.specs.declared.Meta.{Meta}
 use Rattle.mu_model_image.specs.Meta.{firmware_id, own_company}
 use Rattle.mu_model_wire.specs.declared.reports.Report.{Report}
@@ -15,7 +15,7 @@ use Rattle.mu_model_client.specs.declared.Stage.{Stage}
 use Rattle.mu_model_client.specs.declared.Stage.TheVariants.{Transfer as StageTransfer, Verified as StageVerified, Applying as StageApplying, Canceling as StageCanceling, Ended as StageEnded}
 use Rattle.mu_model_client.specs.Answers.{own_limits, InformationIs, TransferIs, BlockIs, Answer, FromUpdate, FromBlob}
 use Rattle.mu_model_client.specs.Rows.{Row}
-use Rattle.mu_model_client.specs.Client.{Receiver, Client, rows, is_active}
+use Rattle.mu_model_client.specs.Client.{Receiver, Client, rows, is_active, is_pending}
 use Rattle.mu_model_client.specs.Begin.{start, start_blob, take_cancel, stage_of, cause_of, resume}
 use Rattle.mu_model_client.specs.Told.{told}
 use Rattle.mu_model_client.specs.Due.{due}
@@ -308,3 +308,20 @@ pub record GoesOn : Type 0 where
   pub rows_stay : rows (resumed_at StageTransfer) ≡ all_rows
   pub sent : map first_packets (StageTransfer ∷ StageVerified ∷ StageApplying ∷ StageCanceling ∷ StageEnded ∷ []) ≡ 6 ∷ 0 ∷ 2 ∷ 1 ∷ 0 ∷ []
   pub stages : map (λ stage. stage_of (resumed_at stage)) (StageTransfer ∷ StageVerified ∷ StageApplying ∷ StageCanceling ∷ StageEnded ∷ []) ≡ StageTransfer ∷ StageVerified ∷ StageApplying ∷ StageCanceling ∷ StageEnded ∷ []
+
+-- ---- cancelling
+
+-- told everything that could raise a row: in cancelling no row moves, and the round alone is told. The row that is asked, the
+-- canceled one, stops being pending by an Update Status in phase Idle
+abbrev pub told_all : List ClientEvent
+told_all = Time 0 ∷ update_status 0 4 ∷ update_status 0 6 ∷ shown_image ∷ says (FromUpdate (UpdateStatus 0 0 None)) ∷ []
+
+abbrev pub pending_in : Client → List Bool
+pending_in c = map is_pending c.receivers
+
+pub record CancellingTellsTheRound : Type 0 where
+  pub rows_stay : rows (after image (resumed_at StageCanceling) told_all) ≡ all_rows
+  pub asked : pending_in (after image (resumed_at StageCanceling) (Time 0 ∷ [])) ≡ map (λ (row : Row). row.phase == 7) all_rows
+  pub answered : pending_in (after image (resumed_at StageCanceling) told_all) ≡ map (λ (row : Row). false) all_rows
+  -- while it is present, each counts: the rows of lower rank become 4, then 6, and those in 1 to 6 Apply Success
+  pub present : map (λ (row : Row). row.phase) (rows (after image (resumed_at StageTransfer) told_all)) ≡ 8 ∷ 8 ∷ 8 ∷ 8 ∷ 8 ∷ 8 ∷ 8 ∷ 7 ∷ 8 ∷ 9 ∷ 8 ∷ 8 ∷ []

@@ -1,6 +1,6 @@
 //! Laws of the client's definitions: functions that do nothing, whose contracts are proved.
 
-ghost use Rattle.mu_model_client_laws.specs.Worked.{RepairsTheUnion, Completes, DropsTheSilent, DropsByStatus, EachStatusDrops, DropsOthers, GoesOn};
+ghost use Rattle.mu_model_client_laws.specs.Worked.{RepairsTheUnion, Completes, DropsTheSilent, DropsByStatus, EachStatusDrops, DropsOthers, GoesOn, CancellingTellsTheRound};
 ghost use Rattle.mu_model_client_laws.specs.WorkedInitiator.{Initiates};
 ghost use Rattle.mu_model_client_laws.specs.Wire.{RequestsAreRead, RequestsKeepTheirOpcodes, RequestsAreNoAnswers, RepliesAreRead};
 ghost use Rattle.mu_model_client_laws.specs.Asked.{ClientsSendTheirPlans};
@@ -57,7 +57,7 @@ pub fn few_packets()
 {}
 
 /// A row's rank never falls; each change of its phase has its cause, and Transfer Canceled, Apply Failed and Phase Unknown are
-/// verdicts. A packet changes its source's rows alone, and as it says.
+/// verdicts. A packet changes its source's rows alone, and as it says; none once the transfer is being canceled.
 pub fn rows()
     ensures rise { RowsRise }
     ensures time { TimeKeepsRanks }
@@ -96,12 +96,13 @@ pub fn clients_are_sound()
     ensures events { EventsKeepSound }
 {}
 
-/// Worked rows: chunks that two receivers miss are sent again, an update that is answered in every step succeeds, and with whom a
-/// client goes on after a boot.
+/// Worked rows: chunks that two receivers miss are sent again, an update that is answered in every step succeeds, with whom a
+/// client goes on after a boot, and that no row moves in cancelling.
 pub fn worked_rows()
     ensures repairs { RepairsTheUnion }
     ensures completes { Completes }
     ensures goes_on { GoesOn }
+    ensures cancels { CancellingTellsTheRound }
 {}
 
 /// Worked rows: each way in which a receiver is dropped, and what its row shows then.

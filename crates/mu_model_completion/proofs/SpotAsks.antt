@@ -17,7 +17,7 @@ use Rattle.mu_model_node.specs.Events.{at_moment, on_request}
 use Rattle.mu_model_client.specs.Answers.{heard}
 use Rattle.mu_model_client.specs.declared.Sending.{Sending}
 use Rattle.mu_model_client.specs.Sets.{has_some, set_of, named_set}
-use Rattle.mu_model_client.specs.Client.{Receiver, Item, Says, Sends, Place, Before, At, Verified as VerifiedPlace, Ended, Step, Transfer, Chunks, Pull, Get, chunk_total}
+use Rattle.mu_model_client.specs.Client.{Update, Receiver, Item, Says, Sends, Place, Before, At, Verified as VerifiedPlace, Ended, Step, Transfer, Chunks, Pull, Get, chunk_total}
 use Rattle.mu_model_client.specs.Told as t
 use Rattle.mu_model_client.specs.Lists.{chunk_octets}
 use Rattle.mu_model_client_laws.specs.Laws.{KeepsPlan, FieldsAreRead}
@@ -292,12 +292,20 @@ module _ (laws : KeepsPlan) (fields : FieldsAreRead) (tiles : Tiles) (p : Sendin
   by_none : (place : Place) (x : Receiver) (replies : List (ℕ × Reply)) → replies ≡ [] → tells laws p meta image config place replies x ≡ x
   by_none place x replies e = ap (λ z. tells laws p meta image config place z x) e
 
-  -- who isn't pending isn't changed by what a BLOB server says
+  -- what a BLOB server says changes no row
+  same_row : (reply : BlobReply) (x : Receiver) (present : Bool) → t.row_counted p (heard (ByBlob reply)) x (Update meta true) present ≡ x
+  same_row reply x true = refl
+  same_row reply x false = refl
+
+  -- and who isn't pending isn't changed by it
+  idle_at : (place : Place) (reply : BlobReply) (x : Receiver) → x.pending ≡ false → t.place_told p (heard (ByBlob reply)) x place ≡ x
+  idle_at (At step) reply x e = ap (t.if_pending p (heard (ByBlob reply)) step x) e
+  idle_at (Before step) reply x e = refl
+  idle_at VerifiedPlace reply x e = refl
+  idle_at (Ended part) reply x e = refl
+
   told_idle : (place : Place) (reply : BlobReply) (x : Receiver) → x.pending ≡ false → tell_ place (ByBlob reply) x ≡ x
-  told_idle (At step) reply x e = ap (t.if_pending p (heard (ByBlob reply)) step x) e
-  told_idle (Before step) reply x e = refl
-  told_idle VerifiedPlace reply x e = refl
-  told_idle (Ended part) reply x e = refl
+  told_idle place reply x e = ap (λ (y : Receiver). t.place_told p (heard (ByBlob reply)) y place) (same_row reply x (t.is_present place)) ∙ idle_at place reply x e
 
   if_idle : (place : Place) (reply : Reply) (x : Receiver) (its : Bool) → IsBlob (u, reply) → x.pending ≡ false → tell_if laws p meta image config place reply x its ≡ x
   if_idle place (ByBlob reply) x true b e = told_idle place reply x e

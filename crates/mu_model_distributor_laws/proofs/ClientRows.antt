@@ -1,5 +1,5 @@
 -- What a packet does to a client's rows: addresses and indexes stand, and numbers stay in their ranges.
-use Rattle.std.proofs.Common.{◌≡◌, ◌<◌, ◌≤◌, ℕ, ◌-◌, Bool, true, false, List, [], ◌∷◌, length, take, set, refl, ◌∙◌, cond, arith, Option, Some, None}
+use Rattle.std.proofs.Common.{◌≡◌, ◌<◌, ◌≤◌, ℕ, ◌-◌, Bool, true, false, List, [], ◌∷◌, length, take, set, refl, ◌∙◌, cond, arith, Option, Some, None, ap}
 use Rattle.std.specs.Prelude.{◌==◌, ◌&&◌, ◌||◌, not, nat_lt, nat_le, min, bytes_eq}
 use Rattle.std.proofs.Math.Nat.{div-le_of_le-mul}
 use Rattle.std.proofs.lemmas.Bool.Decides.{nat_tests}
@@ -12,7 +12,7 @@ use Rattle.mu_model_client.specs.Sets.{has_some, all_below}
 use Rattle.mu_model_client.specs.Answers.{Limits, BlobAnswer, InformationIs, TransferIs, BlockIs, PartIs, Answer, FromUpdate, FromBlob}
 use Rattle.mu_model_client.specs.Rows.{Row, is_reported, rank, phase_reported, phase_of_job, phase_shown, phase_after_update, row_after}
 use Rattle.mu_model_client.specs.Client.{Purpose, Blob, Update, Step, Check, Start, Information, Transfer, Block, Pull, Get, Verify, Apply, Confirm, Cancel, Receiver, Place, At, Client, chunk_total, full_chunks}
-use Rattle.mu_model_client.specs.Told.{answered, held_percent, with_blocks, with_chunks, is_of, on_check, has_taken, on_start, takes_mode, on_limits, on_information, is_ours, blocks_told, blocks_in, on_transfer, chunks_in, block_told, on_block, hears, wants, part_told, pull_told, on_pull, with_barren, barren_after, get_told, on_get, on_phase, on_verify, on_apply, on_confirm, on_cancel, update_told, blob_told, answer_told, step_told, if_pending, place_told, row_told, told_if}
+use Rattle.mu_model_client.specs.Told.{answered, held_percent, with_blocks, with_chunks, is_of, on_check, has_taken, on_start, takes_mode, on_limits, on_information, is_ours, blocks_told, blocks_in, on_transfer, chunks_in, block_told, on_block, hears, wants, part_told, pull_told, on_pull, with_barren, barren_after, get_told, on_get, on_phase, on_verify, on_apply, on_confirm, on_cancel, update_told, blob_told, answer_told, step_told, if_pending, place_told, row_told, is_present, row_counted, told_if}
 use Rattle.mu_model_distributor.specs.Sound.{AnswerFits, UpdateAnswerFits, BlobAnswerFits}
 
 -- the numbers of a row
@@ -224,10 +224,20 @@ row_told_kept : (p : Sending) (answer : Answer) (r : Receiver) (purpose : Purpos
 row_told_kept p answer r Blob = keeps_same r.row
 row_told_kept p answer r (Update offered apply) = row_kept p.id offered r.row answer
 
+counted_kept : (p : Sending) (answer : Answer) (r : Receiver) (purpose : Purpose) (present : Bool) → Keeps r.row (row_counted p answer r purpose present).row
+counted_kept p answer r purpose true = row_told_kept p answer r purpose
+counted_kept p answer r purpose false = keeps_same r.row
+
 pub told_keeps : (c : Client) (answer : Answer) (r : Receiver) (b : Bool) → AnswerFits answer → Keeps r.row (told_if c answer r b).row
-told_keeps c answer r true h = then_keeps (row_told_kept c.sending answer r c.purpose) (place_kept c.sending answer (row_told c.sending answer r c.purpose) c.place h).keeps
+told_keeps c answer r true h = then_keeps (counted_kept c.sending answer r c.purpose (is_present c.place)) (place_kept c.sending answer (row_counted c.sending answer r c.purpose (is_present c.place)) c.place h).keeps
 told_keeps c answer r false h = keeps_same r.row
 
--- the phase is what the packet says of it
-pub told_phase : (c : Client) (answer : Answer) (r : Receiver) → AnswerFits answer → (told_if c answer r true).row.phase ≡ (row_told c.sending answer r c.purpose).row.phase
-told_phase c answer r h = (place_kept c.sending answer (row_told c.sending answer r c.purpose) c.place h).phase
+-- the phase is what the packet says of it, while the transfer is present
+told_phase : (c : Client) (answer : Answer) (r : Receiver) → AnswerFits answer → (told_if c answer r true).row.phase ≡ (row_counted c.sending answer r c.purpose (is_present c.place)).row.phase
+told_phase c answer r h = (place_kept c.sending answer (row_counted c.sending answer r c.purpose (is_present c.place)) c.place h).phase
+
+pub present_phase : (c : Client) (answer : Answer) (r : Receiver) → AnswerFits answer → is_present c.place ≡ true → (told_if c answer r true).row.phase ≡ (row_told c.sending answer r c.purpose).row.phase
+present_phase c answer r h e = told_phase c answer r h ∙ ap (λ b. (row_counted c.sending answer r c.purpose b).row.phase) e
+
+pub canceled_phase : (c : Client) (answer : Answer) (r : Receiver) → AnswerFits answer → is_present c.place ≡ false → (told_if c answer r true).row.phase ≡ r.row.phase
+canceled_phase c answer r h e = told_phase c answer r h ∙ ap (λ b. (row_counted c.sending answer r c.purpose b).row.phase) e

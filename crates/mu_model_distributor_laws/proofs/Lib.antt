@@ -17,6 +17,7 @@ pub mod Counts
 pub mod Work
 pub mod Ranges
 pub mod ClientPlan
+pub mod Present
 pub mod Planned
 pub mod Offered
 pub mod RowMoves

@@ -262,7 +262,7 @@ OffersBoth address old new sends = Offers address old sends × Offers address ne
 client_offering : (address : ℕ) (s : DistState) (c : Client) → s.client ≡ Some c → IsDistState s → IsPlanned address s → Offering address s.durable c
 client_offering address s c e h k =
     let own : HasRows s.durable.receivers s.progress c = (has_rows (is_at_rest s.durable.phase) s.durable.receivers s.progress s.client c h.client e).1 in
-    (own_plan address s.durable s.client c e k, still_in (rows c) s.durable.receivers (map receiver_of (rows c)) (sym own.receivers) (row_received (rows c)))
+    (own_plan address s.durable s.client c e k.plan, still_in (rows c) s.durable.receivers (map receiver_of (rows c)) (sym own.receivers) (row_received (rows c)))
 
 waiting : (address : ℕ) (s t : DistState) (reports : List (ℕ × Sent)) (client : Option Client) → s.client ≡ client → Goes s.durable t.durable → ((d : DistDurable) → Offers address d reports) → IsDistState s → IsPlanned address s → OffersBoth address s.durable (client_waits address s t reports client).next.durable (client_waits address s t reports client).sends
 waiting address s t reports None e same all h k = (all s.durable, all _)

@@ -39,21 +39,25 @@ use Rattle.mu_model_distributor_laws.specs.Laws.{EventFits}
 use Rattle.mu_model_distributor_laws.specs.Planned.{DoesPlan, IsPlanned, EventsKeepPlanned, BootsArePlanned}
 use Rattle.mu_model_distributor_laws.proofs.ClientDue.{told_rows, due_rows}
 use Rattle.mu_model_distributor_laws.proofs.ClientPlan.{within_kept, items_within, Right, due_right}
+use Rattle.mu_model_distributor_laws.proofs.Present.{events_place, boots_place}
 use Rattle.mu_model_distributor_laws.proofs.Times.{server_client, run_is}
 use Rattle.mu_model_distributor_laws.proofs.Steps.{awake, moved}
 
 -- ---- what keeps a plan
+
+abbrev HasPlan : ℕ → DistState → Type 0
+HasPlan address s = MatchOption s.client (Unit {0}) (DoesPlan address s.durable)
 
 -- the plan stands where what is offered stands
 keeps : (address : ℕ) (d e : DistDurable) (client : Option Client) → plan_of address e ≡ plan_of address d → MatchOption client (Unit {0}) (DoesPlan address d) → MatchOption client (Unit {0}) (DoesPlan address e)
 keeps address d e None same h = tt
 keeps address d e (Some c) same h = record { sending = h.sending ∙ sym (ap (λ (p : Plan). p.sending) same); purpose = h.purpose ∙ sym (ap purpose_of same); queue = h.queue }
 
-recorded_keeps : (address : ℕ) (t : DistState) (b : Bool) → IsPlanned address t → IsPlanned address (recorded_if t b)
+recorded_keeps : (address : ℕ) (t : DistState) (b : Bool) → HasPlan address t → HasPlan address (recorded_if t b)
 recorded_keeps address t true h = h
 recorded_keeps address t false h = keeps address t.durable _ t.client refl h
 
-pub committed_keeps : (address : ℕ) (s t : DistState) → IsPlanned address t → IsPlanned address (committed s t)
+pub committed_keeps : (address : ℕ) (s t : DistState) → HasPlan address t → HasPlan address (committed s t)
 committed_keeps address s t h = recorded_keeps address t _ h
 
 -- at rest there is no client
@@ -61,14 +65,14 @@ rests : (address : ℕ) (d : DistDurable) (b : Bool) (client : Option Client) (r
 rests address d true client receivers progress e h = rw h tt
 rests address d false client receivers progress e h = cc
 
-pub rest_planned : (address : ℕ) (t : DistState) → IsDistState t → is_at_rest t.durable.phase ≡ true → IsPlanned address t
+pub rest_planned : (address : ℕ) (t : DistState) → IsDistState t → is_at_rest t.durable.phase ≡ true → HasPlan address t
 rest_planned address t h e = rests address t.durable (is_at_rest t.durable.phase) t.client t.durable.receivers t.progress e h.client
 
 begins_at : (address : ℕ) (d : DistDurable) (given : List Row) (stage : Option Stage) → MatchOption (begun_at (plan_of address d) given stage) (Unit {0}) (DoesPlan address d)
 begins_at address d given None = tt
 begins_at address d given (Some stage) = record { sending = refl; purpose = refl; queue = tt }
 
-pub begun_planned : (address : ℕ) (s : DistState) → IsPlanned address (client_begun address s)
+pub begun_planned : (address : ℕ) (s : DistState) → HasPlan address (client_begun address s)
 begun_planned address s = begins_at address s.durable (rows_of s) (stage_in s.durable.phase)
 
 pub own_plan : (address : ℕ) (d : DistDurable) (client : Option Client) (c : Client) → client ≡ Some c → MatchOption client (Unit {0}) (DoesPlan address d) → DoesPlan address d c
@@ -94,14 +98,14 @@ due_plan address d c image now h =
 -- ---- requests
 
 abbrev Plans : ℕ → Result DistState ℕ → Type 0
-Plans address (Ok t) = IsPlanned address t
+Plans address (Ok t) = HasPlan address t
 Plans address (Err status) = ⊤
 
 split : (address : ℕ) (b : Bool) (x y : Result DistState ℕ) → (b ≡ true → Plans address x) → (b ≡ false → Plans address y) → Plans address (cond b x y)
 split address true x y h k = h refl
 split address false x y h k = k refl
 
-led : (address : ℕ) (s : DistState) (to : ℕ) (show : ℕ → DistState → DistReply) (r : Result DistState ℕ) → IsPlanned address s → Plans address r → IsPlanned address (answered s to show r).next
+led : (address : ℕ) (s : DistState) (to : ℕ) (show : ℕ → DistState → DistReply) (r : Result DistState ℕ) → HasPlan address s → Plans address r → HasPlan address (answered s to show r).next
 led address s to show (Ok t) h k = committed_keeps address s t k
 led address s to show (Err status) h k = h
 
@@ -113,10 +117,10 @@ starts address s (Some ask) =
     (λ b. split address (length s.durable.receivers == 0) _ _ (λ c. tt)
     (λ c. split address (s.durable.counter == 281474976710655) _ _ (λ d. tt) (λ d. begun_planned address (next_distribution s ask)))))
 
-same_start : (address : ℕ) (s : DistState) (ask : Option Settings) → IsPlanned address s → Plans address (cond (are_settings ask s.durable.settings) (Ok s) (Err 7))
+same_start : (address : ℕ) (s : DistState) (ask : Option Settings) → HasPlan address s → Plans address (cond (are_settings ask s.durable.settings) (Ok s) (Err 7))
 same_start address s ask h = split address (are_settings ask s.durable.settings) _ _ (λ k. h) (λ k. tt)
 
-start_plans : (address : ℕ) (s : DistState) (ask : Option Settings) (p : DistPhase) → IsPlanned address s → Plans address (distribution_start address s ask p)
+start_plans : (address : ℕ) (s : DistState) (ask : Option Settings) (p : DistPhase) → HasPlan address s → Plans address (distribution_start address s ask p)
 start_plans address s ask Idle h = starts address s ask
 start_plans address s ask Completed h = starts address s ask
 start_plans address s ask Failed h = starts address s ask
@@ -126,7 +130,7 @@ start_plans address s ask TransferSuccess h = same_start address s ask h
 start_plans address s ask ApplyingUpdate h = same_start address s ask h
 start_plans address s ask CancelingUpdate h = same_start address s ask h
 
-suspend_plans : (address : ℕ) (s : DistState) (p : DistPhase) → IsPlanned address s → Plans address (distribution_suspend s p)
+suspend_plans : (address : ℕ) (s : DistState) (p : DistPhase) → HasPlan address s → Plans address (distribution_suspend s p)
 suspend_plans address s TransferActive h = keeps address s.durable _ s.client refl h
 suspend_plans address s TransferSuspended h = h
 suspend_plans address s Idle h = tt
@@ -136,11 +140,11 @@ suspend_plans address s Completed h = tt
 suspend_plans address s Failed h = tt
 suspend_plans address s CancelingUpdate h = tt
 
-canceled : (address : ℕ) (s : DistState) (client : Option Client) → s.client ≡ client → IsPlanned address s → IsPlanned address (cancels s client)
+canceled : (address : ℕ) (s : DistState) (client : Option Client) → s.client ≡ client → HasPlan address s → HasPlan address (cancels s client)
 canceled address s None e h = keeps address s.durable _ s.client refl h
 canceled address s (Some c) e h = let k = own_plan address s.durable s.client c e h in record { sending = k.sending; purpose = k.purpose; queue = tt }
 
-cancel_plans : (address : ℕ) (s : DistState) (p : DistPhase) → IsPlanned address s → Plans address (distribution_cancel s p)
+cancel_plans : (address : ℕ) (s : DistState) (p : DistPhase) → HasPlan address s → Plans address (distribution_cancel s p)
 cancel_plans address s TransferActive h = canceled address s s.client refl h
 cancel_plans address s TransferSuccess h = canceled address s s.client refl h
 cancel_plans address s TransferSuspended h = canceled address s s.client refl h
@@ -150,11 +154,11 @@ cancel_plans address s ApplyingUpdate h = tt
 cancel_plans address s Idle h = h
 cancel_plans address s CancelingUpdate h = h
 
-applied : (address : ℕ) (s : DistState) (client : Option Client) → s.client ≡ client → IsPlanned address s → IsPlanned address (applies s client)
+applied : (address : ℕ) (s : DistState) (client : Option Client) → s.client ≡ client → HasPlan address s → HasPlan address (applies s client)
 applied address s None e h = keeps address s.durable _ s.client refl h
 applied address s (Some c) e h = let k = own_plan address s.durable s.client c e h in record { sending = k.sending; purpose = k.purpose; queue = tt }
 
-apply_plans : (address : ℕ) (s : DistState) (p : DistPhase) → IsPlanned address s → Plans address (distribution_apply s p)
+apply_plans : (address : ℕ) (s : DistState) (p : DistPhase) → HasPlan address s → Plans address (distribution_apply s p)
 apply_plans address s TransferSuccess h = applied address s s.client refl h
 apply_plans address s ApplyingUpdate h = h
 apply_plans address s Idle h = tt
@@ -164,37 +168,37 @@ apply_plans address s Failed h = tt
 apply_plans address s CancelingUpdate h = tt
 apply_plans address s TransferSuspended h = tt
 
-add_plans : (address : ℕ) (s : DistState) (entries : List Entry) → IsPlanned address s → Plans address (receivers_add s entries)
+add_plans : (address : ℕ) (s : DistState) (entries : List Entry) → HasPlan address s → Plans address (receivers_add s entries)
 add_plans address s entries h =
     split address (not (is_idle s.durable.phase)) _ _ (λ a. tt)
     (λ a. split address (nat_lt 128 (length (added s.durable.receivers entries))) _ _ (λ b. tt) (λ b. keeps address s.durable _ s.client refl h))
 
-delete_plans : (address : ℕ) (s : DistState) → IsPlanned address s → Plans address (receivers_delete_all s)
+delete_plans : (address : ℕ) (s : DistState) → HasPlan address s → Plans address (receivers_delete_all s)
 delete_plans address s h = split address (is_idle s.durable.phase) _ _ (λ a. keeps address s.durable _ s.client refl h) (λ a. tt)
 
-takes_plan : (address : ℕ) (s : DistState) (u : UploadStart) (meta : Meta) (banks : List ℕ) → IsPlanned address s → Plans address (takes_in s u meta banks)
+takes_plan : (address : ℕ) (s : DistState) (u : UploadStart) (meta : Meta) (banks : List ℕ) → HasPlan address s → Plans address (takes_in s u meta banks)
 takes_plan address s u meta [] h = tt
 takes_plan address s u meta (bank ∷ others) h = split address (nat_lt s.durable.capacity u.size) _ _ (λ a. tt) (λ a. keeps address s.durable _ s.client refl h)
 
-takes_or_plan : (address : ℕ) (s : DistState) (u : UploadStart) (meta : Meta) (upload : Upload) → IsPlanned address s → Plans address (takes_or_resumes s u meta upload)
+takes_or_plan : (address : ℕ) (s : DistState) (u : UploadStart) (meta : Meta) (upload : Upload) → HasPlan address s → Plans address (takes_or_resumes s u meta upload)
 takes_or_plan address s u meta (Broken (Some j)) h = split address (same_upload_start u s.durable j) _ _ (λ a. keeps address s.durable _ s.client refl h) (λ a. takes_plan address s u meta (empty_banks s.durable.images None) h)
 takes_or_plan address s u meta (Broken None) h = takes_plan address s u meta (empty_banks s.durable.images None) h
 takes_or_plan address s u meta NoUpload h = takes_plan address s u meta (empty_banks s.durable.images None) h
 takes_or_plan address s u meta (Uploading j) h = takes_plan address s u meta (empty_banks s.durable.images None) h
 takes_or_plan address s u meta Uploaded h = takes_plan address s u meta (empty_banks s.durable.images None) h
 
-offers_plan : (address : ℕ) (s : DistState) (u : UploadStart) (upload : Upload) (offer : Option Meta) → IsPlanned address s → Plans address (offers s u upload offer)
+offers_plan : (address : ℕ) (s : DistState) (u : UploadStart) (upload : Upload) (offer : Option Meta) → HasPlan address s → Plans address (offers s u upload offer)
 offers_plan address s u upload None h = tt
 offers_plan address s u upload (Some meta) h = split address (has_image s.durable.images meta) _ _ (λ a. keeps address s.durable _ s.client refl h) (λ a. takes_or_plan address s u meta upload h)
 
-upload_plans : (address : ℕ) (s : DistState) (u : UploadStart) (upload : Upload) → IsPlanned address s → Plans address (upload_start s u upload)
+upload_plans : (address : ℕ) (s : DistState) (u : UploadStart) (upload : Upload) → HasPlan address s → Plans address (upload_start s u upload)
 upload_plans address s u (Uploading j) h = split address (same_upload_start u s.durable j) _ _ (λ a. h) (λ a. tt)
 upload_plans address s u NoUpload h = split address (is_at_rest s.durable.phase) _ _ (λ a. offers_plan address s u NoUpload (offered_meta u) h) (λ a. tt)
 upload_plans address s u (Broken job) h = split address (is_at_rest s.durable.phase) _ _ (λ a. offers_plan address s u (Broken job) (offered_meta u) h) (λ a. tt)
 upload_plans address s u Uploaded h = split address (is_at_rest s.durable.phase) _ _ (λ a. offers_plan address s u Uploaded (offered_meta u) h) (λ a. tt)
 
 -- where images go there is no client
-fewer : (address : ℕ) (s : DistState) (images : List StoredImage) → IsDistState s → is_at_rest s.durable.phase ≡ true → IsPlanned address (with_images s images)
+fewer : (address : ℕ) (s : DistState) (images : List StoredImage) → IsDistState s → is_at_rest s.durable.phase ≡ true → HasPlan address (with_images s images)
 fewer address s images h rest = rests address (record (s.durable) { images = images }) (is_at_rest s.durable.phase) s.client s.durable.receivers s.progress rest h.client
 
 rest_of : (b : Bool) → not b ≡ false → b ≡ true
@@ -212,7 +216,7 @@ all_plans address s h =
     split address (not (is_at_rest s.durable.phase)) _ _ (λ a. tt)
     (λ a. split address (is_in_upload (run_upload s)) _ _ (λ b. tt) (λ b. fewer address s [] h (rest_of (is_at_rest s.durable.phase) a)))
 
-request_plans : (address : ℕ) (s : DistState) (to : ℕ) (request : DistRequest) → IsDistState s → IsPlanned address s → IsPlanned address (on_request address s to request).next
+request_plans : (address : ℕ) (s : DistState) (to : ℕ) (request : DistRequest) → IsDistState s → HasPlan address s → HasPlan address (on_request address s to request).next
 request_plans address s to (ReceiversAdd entries) h k = led address s to receivers_status (receivers_add s entries) k (add_plans address s entries k)
 request_plans address s to ReceiversDeleteAll h k = led address s to receivers_status (receivers_delete_all s) k (delete_plans address s k)
 request_plans address s to (ReceiversGet first limit) h k = k
@@ -233,26 +237,26 @@ request_plans address s to FirmwareDeleteAll h k = led address s to (firmware_st
 
 -- ---- the other messages
 
-change_plans : (address : ℕ) (s : DistState) (c : Change) (l : Session) → IsPlanned address s → IsPlanned address (with_session (blob_changed s c) l)
+change_plans : (address : ℕ) (s : DistState) (c : Change) (l : Session) → HasPlan address s → HasPlan address (with_session (blob_changed s c) l)
 change_plans address s Same l h = keeps address s.durable _ s.client refl h
 change_plans address s (Begins p) l h = keeps address s.durable _ s.client refl h
 change_plans address s Drops l h = keeps address s.durable _ s.client refl h
 change_plans address s (Puts block octets) l h = keeps address s.durable _ s.client refl h
 
-hears_plans : (address : ℕ) (s : DistState) (from : ℕ) (answer : Answer) (client : Option Client) → s.client ≡ client → AnswerFits answer → IsPlanned address s → IsPlanned address (hears s from answer client).next
+hears_plans : (address : ℕ) (s : DistState) (from : ℕ) (answer : Answer) (client : Option Client) → s.client ≡ client → AnswerFits answer → HasPlan address s → HasPlan address (hears s from answer client).next
 hears_plans address s from answer None e fits h = h
 hears_plans address s from answer (Some c) e fits h =
     let k = told_plan address s.durable c from answer s.moment fits (own_plan address s.durable s.client c e h) in
     committed_keeps address s (with_client s (told c from answer s.moment)) (record { sending = k.sending; purpose = k.purpose; queue = k.queue })
 
-taken_plans : (address : ℕ) (s : DistState) (from : ℕ) (taken : Taken) → TakenFits taken → IsDistState s → IsPlanned address s → IsPlanned address (on_taken address s from taken).next
+taken_plans : (address : ℕ) (s : DistState) (from : ℕ) (taken : Taken) → TakenFits taken → IsDistState s → HasPlan address s → HasPlan address (on_taken address s from taken).next
 taken_plans address s from (OfDistribution request) fits h k = request_plans address s from request h k
 taken_plans address s from (OfBlob request) fits h k = change_plans address s (on_blob (server_of s) from request).change (on_blob (server_of s) from request).session k
 taken_plans address s from (OfReceiver answer) fits h k = hears_plans address s from answer s.client refl fits k
 
 -- ---- time
 
-broken_plans : (address : ℕ) (s : DistState) (link : Link) (upload : Upload) → IsPlanned address s → IsPlanned address (broken_by link upload s)
+broken_plans : (address : ℕ) (s : DistState) (link : Link) (upload : Upload) → HasPlan address s → HasPlan address (broken_by link upload s)
 broken_plans address s Cut (Uploading j) h = keeps address s.durable _ s.client refl h
 broken_plans address s Cut NoUpload h = h
 broken_plans address s Cut (Broken job) h = h
@@ -260,24 +264,24 @@ broken_plans address s Cut Uploaded h = h
 broken_plans address s Ready upload h = h
 broken_plans address s Running upload h = h
 
-pub server_plans : (address : ℕ) (s : DistState) (o : Served) → IsPlanned address s → IsPlanned address (server_waits s o)
+pub server_plans : (address : ℕ) (s : DistState) (o : Served) → HasPlan address s → HasPlan address (server_waits s o)
 server_plans address s o h = broken_plans address (with_session s o.session) o.session.link (run_upload s) (keeps address s.durable s.durable s.client refl h)
 
-either : (address : ℕ) (b : Bool) (x y : DistState) → IsPlanned address x → IsPlanned address y → IsPlanned address (cond b x y)
+either : (address : ℕ) (b : Bool) (x y : DistState) → HasPlan address x → HasPlan address y → HasPlan address (cond b x y)
 either address true x y h k = h
 either address false x y h k = k
 
-going_by : (address : ℕ) (s : DistState) (b : Bool) → IsPlanned address s → IsPlanned address (goes_on_by address s b)
+going_by : (address : ℕ) (s : DistState) (b : Bool) → HasPlan address s → HasPlan address (goes_on_by address s b)
 going_by address s true h = h
 going_by address s false h = begun_planned address s
 
-verifying : (address : ℕ) (s : DistState) (c : Client) → IsPlanned address s → IsPlanned address (has_verified address s c)
+verifying : (address : ℕ) (s : DistState) (c : Client) → HasPlan address s → HasPlan address (has_verified address s c)
 verifying address s c h =
     let p : DistPhase = cond (s.durable.settings.policy == 1) ApplyingUpdate TransferSuccess in
     either address (not (has_phase s.durable.receivers (4 ∷ 6 ∷ 8 ∷ []))) (at_rest s Failed) (goes_on address s c p) tt
     (going_by address (in_phase s p) (list_any is_active c.receivers) (keeps address s.durable (record (s.durable) { phase = p }) s.client refl h))
 
-advances : (address : ℕ) (s : DistState) (c : Client) (p : DistPhase) (stage : Stage) → IsPlanned address s → IsPlanned address (advanced address s c p stage)
+advances : (address : ℕ) (s : DistState) (c : Client) (p : DistPhase) (stage : Stage) → HasPlan address s → HasPlan address (advanced address s c p stage)
 advances address s c TransferActive Transfer h = h
 advances address s c TransferActive Verified h = verifying address s c h
 advances address s c TransferActive Applying h = verifying address s c h
@@ -299,32 +303,32 @@ advances address s c Completed stage h = h
 advances address s c Failed stage h = h
 advances address s c TransferSuspended stage h = h
 
-turn_plans : (address : ℕ) (t : DistState) (c : Client) (image : List ℕ) (now : ℕ) → DoesPlan address t.durable c → IsPlanned address (after_turn address t (due c image now).next)
+turn_plans : (address : ℕ) (t : DistState) (c : Client) (image : List ℕ) (now : ℕ) → DoesPlan address t.durable c → HasPlan address (after_turn address t (due c image now).next)
 turn_plans address t c image now h =
     let k = due_plan address t.durable c image now h in
     advances address (with_client t (due c image now).next) (due c image now).next t.durable.phase (stage_of (due c image now).next) (record { sending = k.sending; purpose = k.purpose; queue = k.queue })
 
-client_plans : (address : ℕ) (s t : DistState) (reports : List (ℕ × Sent)) (client : Option Client) → t.client ≡ client → IsPlanned address t → IsPlanned address (client_waits address s t reports client).next
+client_plans : (address : ℕ) (s t : DistState) (reports : List (ℕ × Sent)) (client : Option Client) → t.client ≡ client → HasPlan address t → HasPlan address (client_waits address s t reports client).next
 client_plans address s t reports None e h = committed_keeps address s t h
 client_plans address s t reports (Some c) e h = by_phase (has_turns t.durable.phase)
   where
-    by_phase : (b : Bool) → IsPlanned address (cond b (client_turns address s t reports (due c (octets_of (offered t.durable)) t.moment)) (ends s t (λ u. reports))).next
+    by_phase : (b : Bool) → HasPlan address (cond b (client_turns address s t reports (due c (octets_of (offered t.durable)) t.moment)) (ends s t (λ u. reports))).next
     by_phase true = committed_keeps address s (after_turn address t (due c (octets_of (offered t.durable)) t.moment).next) (turn_plans address t c (octets_of (offered t.durable)) t.moment (own_plan address t.durable t.client c e h))
     by_phase false = committed_keeps address s t h
 
-waits_plan : (address : ℕ) (s : DistState) (o : Served) → IsPlanned address s → IsPlanned address (waits address s o).next
+waits_plan : (address : ℕ) (s : DistState) (o : Served) → HasPlan address s → HasPlan address (waits address s o).next
 waits_plan address s o h = client_plans address s (server_waits s o) (map by_blob o.replies) s.client (server_client (with_session s o.session) o.session.link (run_upload s)) (server_plans address s o h)
 
-stores_plan : (address : ℕ) (s : DistState) (j : UploadJob) (b : Bool) → s.durable.upload ≡ Uploading j → IsDistState s → IsPlanned address s → IsPlanned address (verified s j b)
+stores_plan : (address : ℕ) (s : DistState) (j : UploadJob) (b : Bool) → s.durable.upload ≡ Uploading j → IsDistState s → HasPlan address s → HasPlan address (verified s j b)
 stores_plan address s j true e h k =
     let rest : is_at_rest s.durable.phase ≡ true = subst (HasUpload s.durable.phase) e h.durable.upload in
     rests address (verified s j true).durable (is_at_rest s.durable.phase) s.client s.durable.receivers s.progress rest h.client
 stores_plan address s j false e h k = keeps address s.durable _ s.client refl k
 
-time_plans : (address : ℕ) (s : DistState) (upload : Upload) → run_upload s ≡ upload → IsDistState s → IsPlanned address s → IsPlanned address (on_time address s upload).next
+time_plans : (address : ℕ) (s : DistState) (upload : Upload) → run_upload s ≡ upload → IsDistState s → HasPlan address s → HasPlan address (on_time address s upload).next
 time_plans address s (Uploading j) e h k = by_whole (is_whole j.transfer)
   where
-    by_whole : (b : Bool) → IsPlanned address (cond b (verifies s j) (waits address s (on_server_time (server_of s) (server_of s).serving))).next
+    by_whole : (b : Bool) → HasPlan address (cond b (verifies s j) (waits address s (on_server_time (server_of s) (server_of s).serving))).next
     by_whole true = committed_keeps address s (verified s j (is_fit (joined j.transfer.held) s.durable.upload_meta)) (stores_plan address s j (is_fit (joined j.transfer.held) s.durable.upload_meta) (run_is s.lags s.durable.upload j e) h k)
     by_whole false = waits_plan address s (on_server_time (server_of s) (server_of s).serving) k
 time_plans address s NoUpload e h k = waits_plan address s (on_server_time (server_of s) (server_of s).serving) k
@@ -333,23 +337,24 @@ time_plans address s Uploaded e h k = waits_plan address s (on_server_time (serv
 
 -- ---- events
 
-packet_plans : (address : ℕ) (s : DistState) (from : ℕ) (taken : Option Taken) → MatchOption taken (Unit {0}) TakenFits → IsDistState s → IsPlanned address s → IsPlanned address (on_packet address s from taken).next
+packet_plans : (address : ℕ) (s : DistState) (from : ℕ) (taken : Option Taken) → MatchOption taken (Unit {0}) TakenFits → IsDistState s → HasPlan address s → HasPlan address (on_packet address s from taken).next
 packet_plans address s from (Some taken) fits h k = taken_plans address s from taken fits h k
 packet_plans address s from None fits h k = k
 
-event_plans : (address : ℕ) (s : DistState) (event : NodeEvent) → EventFits event → IsDistState s → IsPlanned address s → IsPlanned address (on_event address s event).next
+event_plans : (address : ℕ) (s : DistState) (event : NodeEvent) → EventFits event → IsDistState s → HasPlan address s → HasPlan address (on_event address s event).next
 event_plans address s (PacketComes packet) fits h k =
-    elim (packet.to == address) as (λ b. IsPlanned address (cond b (on_packet address s packet.from (taken_at packet.payload)) (passed_over s)).next) [
+    elim (packet.to == address) as (λ b. HasPlan address (cond b (on_packet address s packet.from (taken_at packet.payload)) (passed_over s)).next) [
       | true ↦ packet_plans address s packet.from (taken_at packet.payload) fits h k
       | false ↦ k
     ]
 event_plans address s TimeComes fits h k = time_plans address s (run_upload s) refl h k
 
 pub planned_at : (address : ℕ) (s : DistState) (now : ℕ) → IsPlanned address s → IsPlanned address (at_moment s now)
-planned_at address s now k = keeps address s.durable s.durable s.client refl k
+planned_at address s now k = record { plan = keeps address s.durable s.durable s.client refl k.plan; place = k.place }
 
 pub events_plan : EventsKeepPlanned
-events_plan address s event now fits h k = event_plans address (at_moment s now) event fits (moved s now h) (keeps address s.durable s.durable s.client refl k)
+events_plan address s event now fits h k =
+    record { plan = event_plans address (at_moment s now) event fits (moved s now h) (keeps address s.durable s.durable s.client refl k.plan); place = events_place address s event now k.place }
 
 pub boots_plan : BootsArePlanned
-boots_plan address d = begun_planned address (awake d)
+boots_plan address d = record { plan = begun_planned address (awake d); place = boots_place address d }

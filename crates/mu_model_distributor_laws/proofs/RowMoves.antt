@@ -14,7 +14,7 @@ use Rattle.mu_model_client.specs.declared.Sending.{Sending}
 use Rattle.mu_model_client.specs.Answers.{Answer}
 use Rattle.mu_model_client.specs.Rows.{Row, rank, row_after}
 use Rattle.mu_model_client.specs.Client.{Purpose, Update, Client, Receiver as Told, row_of, rows}
-use Rattle.mu_model_client.specs.Told.{row_told, told_if, told}
+use Rattle.mu_model_client.specs.Told.{is_present, row_told, told_if, told}
 use Rattle.mu_model_client.specs.Begin.{stage_of, take_cancel, canceled as told_canceled}
 use Rattle.mu_model_client.specs.Due.{due}
 use Rattle.mu_model_distributor.specs.declared.Settings.{Settings}
@@ -35,11 +35,12 @@ use Rattle.mu_model_distributor.specs.DistTime.{is_whole, verified, verifies, se
 use Rattle.mu_model_distributor.specs.DistEvents.{passed_over, at_moment, on_packet, on_event}
 use Rattle.mu_model_distributor.specs.Sound.{IsDistState, AnswerFits, TakenFits}
 use Rattle.mu_model_distributor_laws.specs.Laws.{EventFits}
-use Rattle.mu_model_distributor_laws.specs.Planned.{DoesPlan, IsPlanned}
+use Rattle.mu_model_distributor_laws.specs.Planned.{has_transfer, DoesPlan, IsPlanned}
 use Rattle.mu_model_distributor_laws.specs.RowMoves.{Each, Says, RowChange, stands, told as by_answer, canceled, unconfirmed, RowMoves, ReceiversMove, begins, adds, empties, moves, RowsMoveByCause}
-use Rattle.mu_model_distributor_laws.proofs.ClientRows.{Keeps, told_keeps, told_phase}
+use Rattle.mu_model_distributor_laws.proofs.ClientRows.{Keeps, told_keeps, present_phase, canceled_phase}
 use Rattle.mu_model_distributor_laws.proofs.ClientDue.{RowsBy, Times, due_times}
 use Rattle.mu_model_distributor_laws.proofs.Moved.{has_rows}
+use Rattle.mu_model_distributor_laws.proofs.Present.{own_place}
 use Rattle.mu_model_distributor_laws.proofs.Planned.{own_plan, planned_at}
 use Rattle.mu_model_distributor_laws.proofs.Steps.{moved}
 use Rattle.mu_model_distributor_laws.proofs.Offered.{Goes, broken_goes, advanced_goes}
@@ -266,24 +267,31 @@ row_by_answer p purpose offer apply id answer r e k =
     let one : (row_told p answer r purpose).row.phase ≡ (row_after p.id offer r.row answer).phase = ap (λ x. (row_told p answer r x).row.phase) k in
     one ∙ ap (λ n. (row_after n offer r.row answer).phase) e
 
-answered_row : (address : ℕ) (d : DistDurable) (event : NodeEvent) (c : Client) (from : ℕ) (answer : Answer) (r : Told) (b : Bool) → (r.row.address == from) ≡ b → is_at_rest d.phase ≡ false → AnswerFits answer → DoesPlan address d c → Says address event from (OfReceiver answer) → RowMoves address d event (receiver_of r.row) (receiver_of (told_if c answer r b).row)
-answered_row address d event c from answer r true e busy fits plan says =
-    let k : Keeps r.row (told_if c answer r true).row = told_keeps c answer r true fits in
-    let same : r.row.address ≡ from = eqb-true r.row.address from e in
-    let phase : (told_if c answer r true).row.phase ≡ (row_after (transfer_id address d) (meta_of (offered d)) r.row answer).phase = told_phase c answer r fits ∙ row_by_answer c.sending c.purpose (meta_of (offered d)) (plan_of address d).apply (transfer_id address d) answer r (ap (λ (p : Sending). p.id) plan.sending) plan.purpose in
-    record { address_same = k.address; index_same = k.index; phase_change = by_answer r.row answer busy refl (subst (λ x. Says address event x (OfReceiver answer)) (sym same) says) phase }
-answered_row address d event c from answer r false e busy fits plan says = record { address_same = refl; index_same = refl; phase_change = stands refl }
+answered_row : (address : ℕ) (d : DistDurable) (event : NodeEvent) (c : Client) (from : ℕ) (answer : Answer) (r : Told) (b : Bool) → (r.row.address == from) ≡ b → is_present c.place ≡ has_transfer d.phase → AnswerFits answer → DoesPlan address d c → Says address event from (OfReceiver answer) → RowMoves address d event (receiver_of r.row) (receiver_of (told_if c answer r b).row)
+answered_row address d event c from answer r true e place fits plan says = record { address_same = k.address; index_same = k.index; phase_change = by_presence (is_present c.place) refl }
+  where
+    k : Keeps r.row (told_if c answer r true).row
+    k = told_keeps c answer r true fits
 
-answered_rows : (address : ℕ) (d : DistDurable) (event : NodeEvent) (c : Client) (from : ℕ) (answer : Answer) (rs : List Told) → is_at_rest d.phase ≡ false → AnswerFits answer → DoesPlan address d c → Says address event from (OfReceiver answer) → Each (RowMoves address d event) (map receiver_of (map row_of rs)) (map receiver_of (map row_of (map (λ r. told_if c answer r (r.row.address == from)) rs)))
-answered_rows address d event c from answer [] busy fits plan says = tt
-answered_rows address d event c from answer (r ∷ rs) busy fits plan says = (answered_row address d event c from answer r (r.row.address == from) refl busy fits plan says, answered_rows address d event c from answer rs busy fits plan says)
+    same : r.row.address ≡ from
+    same = eqb-true r.row.address from e
+
+    by_presence : (b : Bool) → is_present c.place ≡ b → RowChange address d event (receiver_of r.row) (receiver_of (told_if c answer r true).row)
+    by_presence true there =
+        let phase : (told_if c answer r true).row.phase ≡ (row_after (transfer_id address d) (meta_of (offered d)) r.row answer).phase = present_phase c answer r fits there ∙ row_by_answer c.sending c.purpose (meta_of (offered d)) (plan_of address d).apply (transfer_id address d) answer r (ap (λ (p : Sending). p.id) plan.sending) plan.purpose in
+        by_answer r.row answer (sym place ∙ there) refl (subst (λ x. Says address event x (OfReceiver answer)) (sym same) says) phase
+    by_presence false gone = stands (canceled_phase c answer r fits gone)
+answered_row address d event c from answer r false e place fits plan says = record { address_same = refl; index_same = refl; phase_change = stands refl }
+
+answered_rows : (address : ℕ) (d : DistDurable) (event : NodeEvent) (c : Client) (from : ℕ) (answer : Answer) (rs : List Told) → is_present c.place ≡ has_transfer d.phase → AnswerFits answer → DoesPlan address d c → Says address event from (OfReceiver answer) → Each (RowMoves address d event) (map receiver_of (map row_of rs)) (map receiver_of (map row_of (map (λ r. told_if c answer r (r.row.address == from)) rs)))
+answered_rows address d event c from answer [] place fits plan says = tt
+answered_rows address d event c from answer (r ∷ rs) place fits plan says = (answered_row address d event c from answer r (r.row.address == from) refl place fits plan says, answered_rows address d event c from answer rs place fits plan says)
 
 hears_move : (address : ℕ) (s : DistState) (event : NodeEvent) (from : ℕ) (answer : Answer) (client : Option Client) → s.client ≡ client → AnswerFits answer → Says address event from (OfReceiver answer) → IsDistState s → IsPlanned address s → ReceiversMove address s.durable event (hears s from answer client).next.durable
 hears_move address s event from answer None e fits says h k = stay address s.durable event s.durable (refl, refl)
 hears_move address s event from answer (Some c) e fits says h k =
-    let busy : is_at_rest s.durable.phase ≡ false = (has_rows (is_at_rest s.durable.phase) s.durable.receivers s.progress s.client c h.client e).0 in
     committed_moves address s (with_client s (told c from answer s.moment)) event refl
-    (subst (λ rs. Each (RowMoves address s.durable event) rs (map receiver_of (rows (told c from answer s.moment)))) (rows_are s c e h) (answered_rows address s.durable event c from answer c.receivers busy fits (own_plan address s.durable s.client c e k) says))
+    (subst (λ rs. Each (RowMoves address s.durable event) rs (map receiver_of (rows (told c from answer s.moment)))) (rows_are s c e h) (answered_rows address s.durable event c from answer c.receivers (own_place s c e k.place) fits (own_plan address s.durable s.client c e k.plan) says))
 
 change_moves : (address : ℕ) (s : DistState) (event : NodeEvent) (c : Change) (l : Session) → ReceiversMove address s.durable event (with_session (blob_changed s c) l).durable
 change_moves address s event Same l = stay address s.durable event s.durable (refl, refl)

@@ -22,6 +22,7 @@ use Rattle.mu_model_distributor.specs.Distribution.{meta_of, renewed}
 use Rattle.mu_model_distributor.specs.DistEvents.{dist_step, live}
 use Rattle.mu_model_distributor.specs.Runs.{happened, state_after}
 use Rattle.mu_model_distributor_laws.specs.RowMoves.{Each, Says, RowChange, stands, told as by_answer, canceled, unconfirmed, RowMoves, ReceiversMove, begins, adds, empties, moves}
+use Rattle.mu_model_distributor_laws.specs.Planned.{has_transfer}
 use Rattle.mu_model_distributor_laws.specs.RunLaws.{HappeningFits, IsInOrder}
 use Rattle.mu_model_distributor_laws.specs.RowsTold.{Heard, heard_as, heard_event, heard_by, heard_in, InOrder, none, here, later, HasFound, ToldPhase, ToldSuccess, ShownSince, Told, verdict, found, told, shown, shown_since, RowsAreToldIn, RowsAreTold}
 use Rattle.mu_model_distributor_laws.proofs.RowMoves.{rows_move}
@@ -143,19 +144,19 @@ answered d id number old row b answer offer at ind (was_shown count more e repor
 
 -- ---- an event
 
-heard_once : (address : ℕ) (d : DistDurable) (packet : Packet) (from : ℕ) (answer : Answer) (b : Bool) (taken : Option Taken) → b ≡ true → taken ≡ Some (OfReceiver answer) → is_at_rest d.phase ≡ false → cond b (heard_as address d from taken) [] ≡ record { from = from; answer = answer; id = transfer_id address d; offer = meta_of (offered d) } ∷ []
+heard_once : (address : ℕ) (d : DistDurable) (packet : Packet) (from : ℕ) (answer : Answer) (b : Bool) (taken : Option Taken) → b ≡ true → taken ≡ Some (OfReceiver answer) → has_transfer d.phase ≡ true → cond b (heard_as address d from taken) [] ≡ record { from = from; answer = answer; id = transfer_id address d; offer = meta_of (offered d) } ∷ []
 heard_once address d packet from answer b taken e k busy = rw (e, k, busy) refl
 
 eq_true : (a b : ℕ) → a ≡ b → (a == b) ≡ true
 eq_true a b e = grind (arith, nat_tests)
 
-heard_is : (address : ℕ) (d : DistDurable) (event : NodeEvent) (from : ℕ) (answer : Answer) → is_at_rest d.phase ≡ false → Says address event from (OfReceiver answer) → heard_event address d event ≡ record { from = from; answer = answer; id = transfer_id address d; offer = meta_of (offered d) } ∷ []
+heard_is : (address : ℕ) (d : DistDurable) (event : NodeEvent) (from : ℕ) (answer : Answer) → has_transfer d.phase ≡ true → Says address event from (OfReceiver answer) → heard_event address d event ≡ record { from = from; answer = answer; id = transfer_id address d; offer = meta_of (offered d) } ∷ []
 heard_is address d (PacketComes packet) from answer busy says =
     heard_once address d packet packet.from answer (packet.to == address) (taken_at packet.payload) (eq_true packet.to address says.0) says.2 busy
     ∙ ap (λ x. record { from = x; answer = answer; id = transfer_id address d; offer = meta_of (offered d) } ∷ []) says.1
 heard_is address d TimeComes from answer busy says = absurd says
 
-row_told_by : (address : ℕ) (found_one d : DistDurable) (event : NodeEvent) (old : List Heard) (row : Row) (b : Receiver) (answer : Answer) → is_at_rest d.phase ≡ false → Says address event row.address (OfReceiver answer) → b.address ≡ row.address → b.index ≡ row.index → b.phase ≡ (row_after (transfer_id address d) (meta_of (offered d)) row answer).phase → Told found_one (transfer_id address d) d.counter old (receiver_of row) → Told found_one (transfer_id address d) d.counter (old ++ heard_event address d event) b
+row_told_by : (address : ℕ) (found_one d : DistDurable) (event : NodeEvent) (old : List Heard) (row : Row) (b : Receiver) (answer : Answer) → has_transfer d.phase ≡ true → Says address event row.address (OfReceiver answer) → b.address ≡ row.address → b.index ≡ row.index → b.phase ≡ (row_after (transfer_id address d) (meta_of (offered d)) row answer).phase → Told found_one (transfer_id address d) d.counter old (receiver_of row) → Told found_one (transfer_id address d) d.counter (old ++ heard_event address d event) b
 row_told_by address found_one d event old row b answer busy says at ind of h =
     let cause : Cause (transfer_id address d) (meta_of (offered d)) row answer b.phase = subst (Cause (transfer_id address d) (meta_of (offered d)) row answer) (sym of) (cause_of (transfer_id address d) (meta_of (offered d)) row answer) in
     let k = answered found_one (transfer_id address d) d.counter old row b answer (meta_of (offered d)) at ind cause h in

@@ -50,7 +50,7 @@ begun address d fresh h few =
     let k = booted address d h in
     record {
       sound = record { durable = h; fresh = few; current = k.sound.current; client = k.sound.client; progress = k.sound.progress; percents = k.sound.percents };
-      planned = k.planned;
+      planned = record { plan = k.planned.plan; place = k.planned.place };
     }
 
 pub happens : RequestsKeepStatesSound → (address : ℕ) (s : DistState) (h : Happening) → HappeningFits h → IsInOrder address s → IsInOrder address (happened address s h)

@@ -7,7 +7,7 @@ use Rattle.mu_model_distributor_laws.specs.WorkedUploads.{AWholeUpload, BrokenUp
 use Rattle.mu_model_distributor_laws.specs.WorkedPhases.{PhaseByPhase}
 use Rattle.mu_model_distributor_laws.specs.WorkedRun.{ADistribution}
 use Rattle.mu_model_distributor_laws.specs.WorkedSettle.{NothingIsLost}
-use Rattle.mu_model_distributor_laws.specs.WorkedEnds.{VerificationEnds, Confirmations, ManyReceivers}
+use Rattle.mu_model_distributor_laws.specs.WorkedEnds.{VerificationEnds, AnswersCount, Confirmations, ManyReceivers}
 
 pub receivers_and_images_is : ReceiversAndImages
 unfolding word_at octets_at opcode_at pattern_at
@@ -40,6 +40,10 @@ nothing_is_lost_is = record { applied = refl; progress = refl; image = refl; lis
 pub verification_ends_is : VerificationEnds
 unfolding word_at octets_at opcode_at pattern_at
 verification_ends_is = record { asks = refl; row_stands = refl; verify_only = refl; then_applies = refl; verify_and_apply = refl; applies = refl; only_success = refl; success_applying = refl; success_completed = refl; other_version = refl; other_distribution = refl; untold = refl; failed_afterwards = refl; seen_failed = refl }
+
+pub answers_count_is : AnswersCount
+unfolding word_at octets_at opcode_at pattern_at
+answers_count_is = record { rows = refl; counts = refl }
 
 pub confirmations_is : Confirmations
 unfolding word_at octets_at opcode_at pattern_at

@@ -1,6 +1,6 @@
 -- What a distributor's client sends is what the distribution offers: its Update Starts have the distribution's BLOB ID, whose number is
 -- the counter in each record that a cut may leave, its TTL and timeout, the offered image's metadata, and each receiver's index.
-use Rattle.std.specs.Prelude.{ℕ, ◌≡◌, ◌⊎◌, ◌≤◌, List, [], ◌∷◌, MatchOption}
+use Rattle.std.specs.Prelude.{ℕ, ◌≡◌, ◌⊎◌, ◌≤◌, Bool, true, false, List, [], ◌∷◌, MatchOption}
 use Rattle.std.specs.List.{AllByRecursion}
 use Rattle.mu_model_image.specs.Meta.{meta_octets}
 use Rattle.mu_model_node.specs.UpdateMessages.{UpdateStart, StartUpdate}
@@ -10,8 +10,11 @@ use Rattle.mu_model_client.specs.declared.Sending.{Sending}
 use Rattle.mu_model_client.specs.Rows.{Row}
 use Rattle.mu_model_client.specs.Client.{Purpose, Item, Says, Client, rows}
 use Rattle.mu_model_client.specs.Lists.{metadata_of}
+use Rattle.mu_model_client.specs.Told.{is_present}
 use Rattle.mu_model_client.specs.Begin.{purpose_of}
 use Rattle.mu_model_distributor.specs.DistMessages.{Sent, ByClient}
+use Rattle.mu_model_distributor.specs.declared.DistPhase.{DistPhase}
+use Rattle.mu_model_distributor.specs.declared.DistPhase.TheVariants.{TransferActive, TransferSuccess, ApplyingUpdate, TransferSuspended}
 use Rattle.mu_model_distributor.specs.DistState.{Receiver, DistDurable, DistState, transfer_id, offered}
 use Rattle.mu_model_distributor.specs.Distribution.{meta_of, plan_of}
 use Rattle.mu_model_distributor.specs.DistEvents.{dist_step, dist_passed, restarted}
@@ -46,8 +49,21 @@ pub record DoesPlan (address : ℕ) (d : DistDurable) (c : Client) : Type 0 wher
   pub purpose : c.purpose ≡ purpose_of (plan_of address d)
   pub queue : AllByRecursion (IsItem c.sending c.purpose (rows c)) c.queue
 
-abbrev pub IsPlanned : ℕ → DistState → Type 0
-IsPlanned address s = MatchOption s.client (Unit {0}) (DoesPlan address s.durable)
+-- whether the transfer is present: not at rest, and not once it is being canceled (this profile)
+abbrev pub has_transfer : DistPhase → Bool
+has_transfer TransferActive = true
+has_transfer TransferSuccess = true
+has_transfer ApplyingUpdate = true
+has_transfer TransferSuspended = true
+has_transfer _ = false
+
+-- so it is for the client
+abbrev pub StandsIn : DistPhase → Client → Type 0
+StandsIn phase c = is_present c.place ≡ has_transfer phase
+
+pub record IsPlanned (address : ℕ) (s : DistState) : Type 0 where
+  pub plan : MatchOption s.client (Unit {0}) (DoesPlan address s.durable)
+  pub place : MatchOption s.client (Unit {0}) (StandsIn s.durable.phase)
 
 -- the client does so from each boot on, in every event
 abbrev pub EventsKeepPlanned : Type 0

@@ -12,7 +12,7 @@ use Rattle.mu_model_distributor.specs.Receivers.{added}
 use Rattle.mu_model_distributor.specs.Distribution.{meta_of, renewed}
 use Rattle.mu_model_distributor.specs.DistEvents.{dist_step}
 use Rattle.mu_model_distributor.specs.Sound.{IsDistState}
-use Rattle.mu_model_distributor_laws.specs.Planned.{IsPlanned}
+use Rattle.mu_model_distributor_laws.specs.Planned.{has_transfer, IsPlanned}
 use Rattle.mu_model_distributor_laws.specs.Laws.{EventFits}
 
 -- R holds at each place, and there are as many
@@ -29,9 +29,9 @@ Says address TimeComes from taken = ⊥
 -- how a row's phase changes within a distribution
 pub data RowChange (address : ℕ) (d : DistDurable) (event : NodeEvent) (old new : Receiver) : Type 0 where
   stands : new.phase ≡ old.phase → RowChange address d event old new
-  -- an answer of the receiver itself, while the distribution goes on, by what it says of its transfer and image
+  -- an answer of the receiver itself, while the transfer is present, by what it says of its transfer and image
   told :
-      (row : Row) (answer : Answer) → is_at_rest d.phase ≡ false → receiver_of row ≡ old → Says address event old.address (OfReceiver answer)
+      (row : Row) (answer : Answer) → has_transfer d.phase ≡ true → receiver_of row ≡ old → Says address event old.address (OfReceiver answer)
       → new.phase ≡ (row_after (transfer_id address d) (meta_of (offered d)) row answer).phase → RowChange address d event old new
   -- canceled while it wasn't final
   canceled : (from : ℕ) → Says address event from (OfDistribution DistributionCancel) → rank old.phase < 5 → new.phase ≡ transfer_canceled → RowChange address d event old new

@@ -14,6 +14,7 @@ use Rattle.mu_model_distributor.specs.Distribution.{meta_of}
 use Rattle.mu_model_distributor.specs.DistEvents.{dist_step, live}
 use Rattle.mu_model_distributor.specs.Runs.{happened, state_after}
 use Rattle.mu_model_distributor.specs.Sound.{IsDistDurable, IsDistState}
+use Rattle.mu_model_distributor_laws.specs.Planned.{has_transfer}
 use Rattle.mu_model_distributor_laws.specs.RunLaws.{HappeningFits}
 
 -- ---- what is offered stands
@@ -35,9 +36,9 @@ pub record Heard : Type 0 where
   pub id : ℕ
   pub offer : Meta
 
--- an answer is heard while a distribution goes on; at rest there is no client to hear it
+-- an answer counts while the transfer is present; at rest there is no client to hear it, and in Canceling Update the round alone is told
 abbrev pub heard_as : ℕ → DistDurable → ℕ → Option Taken → List Heard
-heard_as address d from (Some (OfReceiver answer)) = if is_at_rest d.phase then [] else record { from = from; answer = answer; id = transfer_id address d; offer = meta_of (offered d) } ∷ []
+heard_as address d from (Some (OfReceiver answer)) = if has_transfer d.phase then record { from = from; answer = answer; id = transfer_id address d; offer = meta_of (offered d) } ∷ [] else []
 heard_as address d from _ = []
 
 abbrev pub heard_event : ℕ → DistDurable → NodeEvent → List Heard

@@ -3,11 +3,11 @@ use Rattle.std.specs.Prelude.{ℕ, ◌≡◌, ◌*◌, ◌++◌, List, [], ◌�
 use Rattle.std.specs.List.{flat_map, range_with_len}
 use Rattle.mu_model_node.specs.Safe.{Happening}
 use Rattle.mu_model_distributor.specs.declared.DistPhase.TheVariants.{ApplyingUpdate, TransferSuspended}
-use Rattle.mu_model_distributor.specs.DistState.{DistState}
+use Rattle.mu_model_distributor.specs.DistState.{Receiver, DistState}
 use Rattle.mu_model_distributor.specs.Receivers.{new_receiver, with_receivers}
 use Rattle.mu_model_distributor.specs.DistEvents.{dist_work}
 use Rattle.mu_model_distributor_laws.specs.Scenes.{stocked_one, heard, said, told, time_passes, after, answers, sends_at, seen, receivers_add, receivers_delete_all, distribution_start_of, distribution_apply, receivers_status}
-use Rattle.mu_model_distributor_laws.specs.WorkedPhases.{found}
+use Rattle.mu_model_distributor_laws.specs.WorkedPhases.{phases, found}
 use Rattle.mu_model_distributor_laws.specs.WorkedRun.{metadata_status, update_status, information_status, rows_seen}
 
 -- a distribution with an octet of mode and policy, whose receiver says at the Update Start that it has verified the image already, so
@@ -48,6 +48,17 @@ pub record VerificationEnds : Type 0 where
   -- answered 4, and Verification Failed afterwards: no row is verified, so the distribution fails and asks nobody to apply
   pub failed_afterwards : sends_at 5 stocked_one (up_to_verify 5 ++ told (update_status 4 1) ∷ told (update_status 5 1) ∷ []) ≡ []
   pub seen_failed : seen (after stocked_one (up_to_verify 5 ++ told (update_status 4 1) ∷ told (update_status 5 1) ∷ time_passes 5 ∷ [])) ≡ 7 ∷ 5 ∷ 0 ∷ 0 ∷ 1 ∷ 1 ∷ 2 ∷ []
+
+-- ---- what counts for a row
+
+-- an Update Status says that the receiver has verified the present transfer: by the phase in which a boot found the distribution
+abbrev pub told_verified : List DistState
+told_verified = map (λ phase. after (found 2 phase) (told (update_status 4 1) ∷ [])) phases
+
+-- it counts while the transfer is present; in Canceling Update the round alone is told, and no record is written
+pub record AnswersCount : Type 0 where
+  pub rows : map (λ (s : DistState). map (λ (r : Receiver). r.phase) s.durable.receivers) told_verified ≡ map (λ phase. phase ∷ []) (2 ∷ 4 ∷ 4 ∷ 4 ∷ 2 ∷ 2 ∷ 2 ∷ 4 ∷ [])
+  pub counts : map (λ (s : DistState). s.durable.count) told_verified ≡ 4 ∷ 5 ∷ 5 ∷ 5 ∷ 4 ∷ 4 ∷ 4 ∷ 5 ∷ []
 
 -- ---- confirmations
 

@@ -5,7 +5,7 @@ ghost use Rattle.mu_model_distributor_laws.specs.WorkedUploads.{AWholeUpload, Br
 ghost use Rattle.mu_model_distributor_laws.specs.WorkedPhases.{PhaseByPhase};
 ghost use Rattle.mu_model_distributor_laws.specs.WorkedRun.{ADistribution};
 ghost use Rattle.mu_model_distributor_laws.specs.WorkedSettle.{NothingIsLost};
-ghost use Rattle.mu_model_distributor_laws.specs.WorkedEnds.{VerificationEnds, Confirmations, ManyReceivers};
+ghost use Rattle.mu_model_distributor_laws.specs.WorkedEnds.{VerificationEnds, AnswersCount, Confirmations, ManyReceivers};
 ghost use Rattle.mu_model_distributor_laws.specs.Laws.{EventsKeepStatesSound, BootsAreSound, PassedStatesAreSound, NewIsSound, StockedIsSound, OctetsSayInRange, StatesPassRising, WorkLeavesOldOrNew, WorkLeadsToTheNew, WorkIsBounded, RecordsAreLongByReceivers, RecordsSaySomething, LongIsPastTheEnd};
 ghost use Rattle.mu_model_distributor_laws.specs.Planned.{EventsKeepPlanned, BootsArePlanned, StartsAreOffered, CountersRise};
 ghost use Rattle.mu_model_distributor_laws.specs.RowMoves.{RowsMoveByCause};
@@ -84,7 +84,7 @@ pub fn runs_are_in_order()
     mu_model_node::laws::states_are_sound();
 }
 
-/// The rows of a distributor say what its receivers told it of the present distribution.
+/// The rows of a distributor say what its receivers told it of the present distribution while its transfer was present.
 pub fn rows_are_told()
     ensures stand { OffersStand }
     ensures told { RowsAreTold }
@@ -112,6 +112,7 @@ pub fn worked_rows()
     ensures distribution { ADistribution }
     ensures nothing_is_lost { NothingIsLost }
     ensures verification_ends { VerificationEnds }
+    ensures answers_count { AnswersCount }
     ensures confirmations { Confirmations }
     ensures many_receivers { ManyReceivers }
 {}

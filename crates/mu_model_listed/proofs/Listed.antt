@@ -21,6 +21,7 @@ use Rattle.mu_model_distributor.specs.DistState.{Receiver, DistDurable, DistStat
 use Rattle.mu_model_distributor.specs.Distribution.{meta_of}
 use Rattle.mu_model_distributor.specs.DistEvents.{dist_step, live}
 use Rattle.mu_model_distributor.specs.Runs.{happened, state_after}
+use Rattle.mu_model_distributor_laws.specs.Planned.{has_transfer}
 use Rattle.mu_model_distributor_laws.specs.RowsTold.{Heard, heard_as, heard_event, heard_by, heard_in, InOrder, none, here, later, Told, verdict as told_verdict, found as told_found, told, shown, shown_since, RowsAreTold}
 use Rattle.mu_model_distributor_laws.specs.Lists.{list_at, TellsRows, ListsAreTold}
 use Rattle.mu_model_told.specs.Reached.{WasReached, IsReached, SentIsReached, sent_in}
@@ -67,9 +68,9 @@ as_true b d from None read h k = tt
 as_true b d from (Some (OfDistribution request)) read h k = tt
 as_true b d from (Some (OfBlob request)) read h k = tt
 as_true b d from (Some (OfReceiver answer)) read h k =
-    elim (is_at_rest d.phase) as (λ t. AllByRecursion (IsTrueOf b) (cond t [] (record { from = from; answer = answer; id = transfer_id b.address d; offer = meta_of (offered d) } ∷ []))) [
-      | true ↦ tt
-      | false ↦ ((λ e. subst (λ (x : Option Answer). IsReached b.node (log_of b) x) h (k e)), tt)
+    elim (has_transfer d.phase) as (λ t. AllByRecursion (IsTrueOf b) (cond t (record { from = from; answer = answer; id = transfer_id b.address d; offer = meta_of (offered d) } ∷ []) [])) [
+      | true ↦ ((λ e. subst (λ (x : Option Answer). IsReached b.node (log_of b) x) h (k e)), tt)
+      | false ↦ tt
     ]
 
 packet_true : (b : Both) (d : DistDurable) (p : Packet) → Says b p → AllByRecursion (IsTrueOf b) (heard_event b.address d (PacketComes p))

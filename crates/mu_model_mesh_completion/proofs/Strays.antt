@@ -22,7 +22,7 @@ use Rattle.mu_model_client.specs.Answers.{PartIs, Answer, FromBlob, answer_of, a
 use Rattle.mu_model_client.specs.Begin.{is_ended}
 use Rattle.mu_model_client.specs.Client as client
 use Rattle.mu_model_client.specs.Client.{Purpose, Blob, Update, Receiver, Place, Before, At, Verified, Ended, Client}
-use Rattle.mu_model_client.specs.Told.{place_told, row_told, told_if, told}
+use Rattle.mu_model_client.specs.Told.{place_told, row_told, is_present, row_counted, told_if, told}
 use Rattle.mu_model_distributor.specs.DistMessages.{taken_of, taken_as, taken_in, taken_at}
 use Rattle.mu_model_completion.specs.Turn.{Sent}
 use Rattle.mu_model_mesh_completion.proofs.Aims.{addresses_of, ClientAims}
@@ -117,6 +117,10 @@ same_row : (p : Sending) (chunks : List ℕ) (r : Receiver) (purpose : Purpose) 
 same_row p chunks r Blob = refl
 same_row p chunks r (Update offered apply) = refl
 
+same_counted : (p : Sending) (chunks : List ℕ) (r : Receiver) (purpose : Purpose) (present : Bool) → row_counted p (FromBlob (PartIs chunks)) r purpose present ≡ r
+same_counted p chunks r purpose true = same_row p chunks r purpose
+same_counted p chunks r purpose false = refl
+
 same_place : (p : Sending) (answer : Answer) (r : Receiver) (place : Place) → is_ended place ≡ true → place_told p answer r place ≡ r
 same_place p answer r (Before step) h = cc
 same_place p answer r (At step) h = cc
@@ -124,7 +128,7 @@ same_place p answer r Verified h = cc
 same_place p answer r (Ended part) h = refl
 
 ended_if : (c : Client) (chunks : List ℕ) (r : Receiver) (b : Bool) → is_ended c.place ≡ true → told_if c (FromBlob (PartIs chunks)) r b ≡ r
-ended_if c chunks r true h = same_place c.sending (FromBlob (PartIs chunks)) _ c.place h ∙ same_row c.sending chunks r c.purpose
+ended_if c chunks r true h = same_place c.sending (FromBlob (PartIs chunks)) _ c.place h ∙ same_counted c.sending chunks r c.purpose (is_present c.place)
 ended_if c chunks r false h = refl
 
 ended_same : (c : Client) (from : ℕ) (chunks : List ℕ) (rs : List Receiver) → is_ended c.place ≡ true → map (λ (r : Receiver). told_if c (FromBlob (PartIs chunks)) r (r.row.address == from)) rs ≡ rs

@@ -17,11 +17,12 @@ use Rattle.mu_model_distributor.specs.Runs.{happened, state_after}
 use Rattle.mu_model_distributor.specs.Sound.{AddressesDiffer}
 use Rattle.mu_model_distributor_laws.specs.Planned.{IsSentAs, IsOffered}
 use Rattle.mu_model_distributor_laws.specs.Rests.{IsNoStart}
+use Rattle.mu_model_distributor_laws.specs.Planned.{has_transfer}
 use Rattle.mu_model_distributor_laws.specs.RunLaws.{HappeningFits, IsInOrder, sent_by, sent_in}
 use Rattle.mu_model_distributor_laws.specs.RowsTold.{Heard, heard_as, heard_event, heard_by, heard_in}
 use Rattle.mu_model_offers.proofs.Below.{Below, happens, sends_offered}
 use Rattle.mu_model_offers.proofs.Places.{index_in, index_is, places_of}
-use Rattle.mu_model_offers.proofs.Goes.{Offer, offer_of, GoesOn, rises, keeps, happened_goes, AreKept, own_kept, run_keeps}
+use Rattle.mu_model_offers.proofs.Goes.{busy_by, Offer, offer_of, GoesOn, rises, keeps, happened_goes, AreKept, own_kept, run_keeps}
 
 -- ---- a number's offer
 
@@ -154,11 +155,11 @@ taken_noted : (address : ℕ) (offers : ℕ → Offer) (d : DistDurable) (from :
 taken_noted address offers d from None = tt
 taken_noted address offers d from (Some (OfDistribution request)) = tt
 taken_noted address offers d from (Some (TakenBlob request)) = tt
-taken_noted address offers d from (Some (OfReceiver answer)) = by_rest (is_at_rest d.phase) refl
+taken_noted address offers d from (Some (OfReceiver answer)) = by_presence (has_transfer d.phase) refl
   where
-    by_rest : (b : Bool) → is_at_rest d.phase ≡ b → AllByRecursion (IsNoted address (with_offer d offers) d) (cond b [] (record { from = from; answer = answer; id = transfer_id address d; offer = meta_of (offered d) } ∷ []))
-    by_rest true e = tt
-    by_rest false e = (record { own = d.counter; id = refl; from = record { least = omega arith; busy = λ same. e }; offer = ap (λ (o : Offer). o.meta) (sym (at_own d offers)) }, tt)
+    by_presence : (b : Bool) → has_transfer d.phase ≡ b → AllByRecursion (IsNoted address (with_offer d offers) d) (cond b (record { from = from; answer = answer; id = transfer_id address d; offer = meta_of (offered d) } ∷ []) [])
+    by_presence true e = (record { own = d.counter; id = refl; from = record { least = omega arith; busy = λ same. busy_by d.phase e }; offer = ap (λ (o : Offer). o.meta) (sym (at_own d offers)) }, tt)
+    by_presence false e = tt
 
 event_noted : (address : ℕ) (offers : ℕ → Offer) (d : DistDurable) (event : NodeEvent) → AllByRecursion (IsNoted address (with_offer d offers) d) (heard_event address d event)
 event_noted address offers d (PacketComes packet) =

@@ -5,7 +5,7 @@ use Rattle.mu_model_image.specs.declared.Meta.{Meta}
 use Rattle.mu_model_node.specs.Events.{NodeEvent}
 use Rattle.mu_model_node.specs.Safe.{Happening}
 use Rattle.mu_model_distributor.specs.declared.DistPhase.{DistPhase}
-use Rattle.mu_model_distributor.specs.declared.DistPhase.TheVariants.{Idle}
+use Rattle.mu_model_distributor.specs.declared.DistPhase.TheVariants.{Idle, TransferActive, TransferSuccess, ApplyingUpdate, Completed, Failed, CancelingUpdate, TransferSuspended}
 use Rattle.mu_model_distributor.specs.Requests.{Entry}
 use Rattle.mu_model_distributor.specs.DistState.{Receiver, DistDurable, DistState, is_at_rest, offered}
 use Rattle.mu_model_distributor.specs.Receivers.{has_address, new_receiver, added}
@@ -13,6 +13,7 @@ use Rattle.mu_model_distributor.specs.Distribution.{meta_of}
 use Rattle.mu_model_distributor.specs.DistEvents.{dist_step}
 use Rattle.mu_model_distributor.specs.Runs.{happened, state_after}
 use Rattle.mu_model_distributor_laws.specs.Laws.{EventFits}
+use Rattle.mu_model_distributor_laws.specs.Planned.{has_transfer}
 use Rattle.mu_model_distributor_laws.specs.RowMoves.{Each, RowMoves, ReceiversMove, begins as begins_rows, adds as adds_rows, empties as empties_rows, moves}
 use Rattle.mu_model_distributor_laws.specs.Rests.{RestMoves, begins, adds, empties, stands}
 use Rattle.mu_model_distributor_laws.specs.RunLaws.{HappeningFits, IsInOrder}
@@ -38,6 +39,17 @@ goes_same d = keeps refl (λ busy. (busy, refl))
 
 wrong : {A : Type 0} (p : DistPhase) → is_at_rest p ≡ true → is_at_rest p ≡ false → A
 wrong p rest busy = let never : true ≡ false = sym rest ∙ busy in cc
+
+-- the transfer is present only while a distribution goes on
+pub busy_by : (phase : DistPhase) → has_transfer phase ≡ true → is_at_rest phase ≡ false
+busy_by Idle e = cc
+busy_by TransferActive e = refl
+busy_by TransferSuccess e = refl
+busy_by ApplyingUpdate e = refl
+busy_by Completed e = cc
+busy_by Failed e = cc
+busy_by CancelingUpdate e = refl
+busy_by TransferSuspended e = refl
 
 -- ---- while a distribution goes on
 

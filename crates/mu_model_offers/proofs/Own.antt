@@ -19,9 +19,11 @@ use Rattle.mu_model_distributor.specs.Runs.{happened}
 use Rattle.mu_model_distributor.specs.Sound.{AreSettings, IsReceiver, AreReceivers, IsStored, AreStored, IsDistDurable}
 use Rattle.mu_model_distributor_laws.specs.Planned.{HasReceiver, IsSentAs, IsOffered}
 use Rattle.mu_model_distributor_laws.specs.Rests.{IsNoStart}
+use Rattle.mu_model_distributor_laws.specs.Planned.{has_transfer}
 use Rattle.mu_model_distributor_laws.specs.RunLaws.{HappeningFits, IsInOrder, sent_by, sent_in}
 use Rattle.mu_model_distributor_laws.specs.RowsTold.{heard_as, heard_event, heard_by, heard_in}
 use Rattle.mu_model_offers.specs.Laws.{IsOwnStart, IsOwnHeard}
+use Rattle.mu_model_offers.proofs.Goes.{busy_by}
 use Rattle.mu_model_offers.proofs.Below.{Below, happens, sends_offered}
 
 -- ---- one
@@ -121,11 +123,11 @@ taken_own : (address : ℕ) (d : DistDurable) (from : ℕ) (taken : Option Taken
 taken_own address d from None h = tt
 taken_own address d from (Some (OfDistribution request)) h = tt
 taken_own address d from (Some (TakenBlob request)) h = tt
-taken_own address d from (Some (OfReceiver answer)) h = by_rest (is_at_rest d.phase) refl
+taken_own address d from (Some (OfReceiver answer)) h = by_presence (has_transfer d.phase) refl
   where
-    by_rest : (b : Bool) → is_at_rest d.phase ≡ b → AllByRecursion (IsOwnHeard address) (cond b [] (record { from = from; answer = answer; id = transfer_id address d; offer = meta_of (offered d) } ∷ []))
-    by_rest true e = tt
-    by_rest false e = (record { own = d.counter; id = refl; own_above = begun_some d h e; own_below = h.counter; is_meta = stored_meta d.capacity d.images d.settings.image (h.image e) h.images }, tt)
+    by_presence : (b : Bool) → has_transfer d.phase ≡ b → AllByRecursion (IsOwnHeard address) (cond b (record { from = from; answer = answer; id = transfer_id address d; offer = meta_of (offered d) } ∷ []) [])
+    by_presence true e = let busy = busy_by d.phase e in (record { own = d.counter; id = refl; own_above = begun_some d h busy; own_below = h.counter; is_meta = stored_meta d.capacity d.images d.settings.image (h.image busy) h.images }, tt)
+    by_presence false e = tt
 
 event_heard : (address : ℕ) (d : DistDurable) (event : NodeEvent) → IsDistDurable d → AllByRecursion (IsOwnHeard address) (heard_event address d event)
 event_heard address d (PacketComes packet) h =

@@ -14,7 +14,7 @@ use Rattle.mu_model_client.specs.Client.{Purpose, Step, Check, Start, Informatio
 use Rattle.mu_model_client.specs.Due.{due, fell_silent}
 use Rattle.mu_model_client.specs.Packets.{answer_handled, client_packet}
 use Rattle.mu_model_client.specs.Rows.{Row, is_reported, row_after}
-use Rattle.mu_model_client.specs.Told.{told as told_client}
+use Rattle.mu_model_client.specs.Told.{is_present, told as told_client}
 use Rattle.mu_model_client_laws.specs.Laws.{Each, PhaseCause, as_before, was_told, was_shown, phase_said, FollowsPacket, RowsChangeByCause, RowsFollowPackets, TimeChangesAtFive, TimeChanges, nothing, fifth}
 use Rattle.mu_model_updater.specs.Updater.{Updater, new_updater, updater_step, updater_after, Heard, heard_as, heard_by, heard_in}
 use Rattle.mu_model_updater.specs.Laws.{InOrder, none, here, later, ToldPhase, RowIsTold, unknown, failed, told, shown, RowsAreTold}
@@ -89,12 +89,16 @@ pub record RowLaws : Type 0 where
 module _ (known : RowLaws) (plan : Plan) where
   row_follows : (c : Client) (from : ℕ) (answer : Answer) (old : List Heard) (a b : Receiver) (is_from : Bool) → (a.row.address == from) ≡ is_from → c.sending ≡ plan.sending → c.purpose ≡ purpose_of plan
       → b.row.address ≡ a.row.address → b.row.index ≡ a.row.index → FollowsPacket c from answer a b → RowIsTold plan old a.row → RowIsTold plan (old ++ record { from = from; answer = answer } ∷ []) b.row
-  row_follows c from answer old a b true e sending purpose at ind follows h =
-      let theirs : a.row.address ≡ from = eqb-true a.row.address from e in
-      let said : b.row.phase ≡ (row_after plan.sending.id plan.meta a.row answer).phase =
-      follows.theirs theirs ∙ ap (λ (id : ℕ). phase_said id c.purpose a.row answer) (ap (λ s. s.id) sending) ∙ ap (λ (p : Purpose). phase_said plan.sending.id p a.row answer) purpose in
-      let cause : PhaseCause plan.sending.id plan.meta a.row answer b.row.phase = subst (λ (phase : ℕ). PhaseCause plan.sending.id plan.meta a.row answer phase) (sym said) (known.causes plan.sending.id plan.meta a.row answer) in
-      subst (λ (x : ℕ). RowIsTold plan (old ++ record { from = x; answer = answer } ∷ []) b.row) theirs (answered plan old a.row b.row answer at ind cause h)
+  row_follows c from answer old a b true e sending purpose at ind follows h = by_presence (is_present c.place) refl
+    where
+      by_presence : (present : Bool) → is_present c.place ≡ present → RowIsTold plan (old ++ record { from = from; answer = answer } ∷ []) b.row
+      by_presence false gone = told_more plan old _ b.row (same_row plan old a.row b.row at ind (follows.canceled gone) h)
+      by_presence true there =
+          let theirs : a.row.address ≡ from = eqb-true a.row.address from e in
+          let said : b.row.phase ≡ (row_after plan.sending.id plan.meta a.row answer).phase =
+          follows.theirs there theirs ∙ ap (λ (id : ℕ). phase_said id c.purpose a.row answer) (ap (λ s. s.id) sending) ∙ ap (λ (p : Purpose). phase_said plan.sending.id p a.row answer) purpose in
+          let cause : PhaseCause plan.sending.id plan.meta a.row answer b.row.phase = subst (λ (phase : ℕ). PhaseCause plan.sending.id plan.meta a.row answer phase) (sym said) (known.causes plan.sending.id plan.meta a.row answer) in
+          subst (λ (x : ℕ). RowIsTold plan (old ++ record { from = x; answer = answer } ∷ []) b.row) theirs (answered plan old a.row b.row answer at ind cause h)
   row_follows c from answer old a b false e sending purpose at ind follows h =
       told_more plan old _ b.row (same_row plan old a.row b.row at ind (follows.others (not_same a.row.address from e)) h)
 

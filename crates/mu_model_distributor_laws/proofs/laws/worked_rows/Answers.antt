@@ -1,4 +1,4 @@
-use Rattle.mu_model_distributor_laws.proofs.Worked.{receivers_and_images_is, whole_upload_is, broken_uploads_is, refused_uploads_is, phase_by_phase_is, distribution_is, nothing_is_lost_is, verification_ends_is, confirmations_is, many_receivers_is}
+use Rattle.mu_model_distributor_laws.proofs.Worked.{receivers_and_images_is, whole_upload_is, broken_uploads_is, refused_uploads_is, phase_by_phase_is, distribution_is, nothing_is_lost_is, verification_ends_is, answers_count_is, confirmations_is, many_receivers_is}
 use Rattle.mu_model_distributor_laws.proofs.laws.worked_rows.Goals as goal
 
 pub returns-clause-receivers_and_images : goal.returns-clause-receivers_and_images
@@ -30,3 +30,6 @@ returns-clause-confirmations c = confirmations_is
 
 pub returns-clause-many_receivers : goal.returns-clause-many_receivers
 returns-clause-many_receivers c = many_receivers_is
+
+pub returns-clause-answers_count : goal.returns-clause-answers_count
+returns-clause-answers_count c = answers_count_is
