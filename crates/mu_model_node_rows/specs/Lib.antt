@@ -1,0 +1,10 @@
+pub mod Scenes
+pub mod TableOfTransfer
+pub mod TableOfImage
+pub mod TableOfCuts
+pub mod Tables
+pub mod Turns
+pub mod RunsOfBlocks
+pub mod RunsOfUpdates
+pub mod Runs
+pub mod Others
