@@ -1,0 +1,4 @@
+pub mod Sessions
+pub mod Looks
+pub mod Rows
+pub mod Pulls
