@@ -1,0 +1,8 @@
+//! The block of a BLOB transfer that comes, in memory: its octets, and which of its chunks are there.
+#![tactic(auto)]
+
+mod buffer;
+#[cfg(test)]
+mod tests;
+
+pub use buffer::BlockBuffer;
