@@ -1,3 +1,6 @@
+pub mod ClockLemmas
+pub mod LimitedLemmas
+pub mod LinkLemmas
 pub mod ListLemmas
 pub mod NamedLemmas
 pub mod StreamLemmas

@@ -9,9 +9,13 @@ mod clock;
 mod cut;
 mod faulty;
 mod flash;
+mod limited;
 mod link;
 mod memory;
+mod posts;
 mod ram;
+mod ram_link;
+mod set_clock;
 mod sink;
 mod source;
 
@@ -21,13 +25,18 @@ pub use clock::Clock;
 pub use cut::CutFlash;
 pub use faulty::FaultyFlash;
 pub use flash::{Flash, Plug};
+pub use limited::Limited;
 pub use link::{Incoming, Link};
 pub use mu_model_flash::{Failed, Pattern};
 pub use ram::RamFlash;
+pub use ram_link::RamLink;
+pub use set_clock::SetClock;
 pub use sink::Sink;
 pub use source::Source;
 
 #[cfg(test)]
 mod flash_tests;
+#[cfg(test)]
+mod link_tests;
 #[cfg(test)]
 mod stream_tests;

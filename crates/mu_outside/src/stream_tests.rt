@@ -1,5 +1,5 @@
 // Inputs and outputs in memory.
-use crate::{BytesSink, BytesSource, Failed, Sink, Source};
+use crate::{BytesSink, BytesSource, Failed, Limited, Sink, Source};
 use std::test::Fail;
 
 // Through the bound, as every caller reads.
@@ -48,5 +48,21 @@ fn a_sink_takes_what_fits_and_then_fails(rt: HostRuntime) -> Result<(), Fail> {
     assert_eq!(rt; write_to(&mut sink, &[5]), Err(Failed));
     assert_eq!(rt; write_to(&mut sink, &[]), Ok(0));
     assert_eq!(rt; sink.bytes(), [1, 2, 3, 4].as_slice());
+    Ok(())
+}
+
+#[test]
+fn a_limit_ends_an_input_early(rt: HostRuntime) -> Result<(), Fail> {
+    let mut source = BytesSource::new(rt.alloc(), b"abcdef", &[3])?;
+    let mut out = [0; 3];
+    let mut limited = Limited::new(&mut source, 4);
+    assert_eq!(rt; limited.read(&mut out), Ok(3));
+    assert_eq!(rt; out, [b'a', b'b', b'c']);
+    assert_eq!(rt; limited.read(&mut out), Ok(1));
+    assert_eq!(rt; out[0], b'd');
+    assert_eq!(rt; limited.read(&mut out), Ok(0));
+    assert_eq!(rt; source.read(&mut out), Err(Failed));
+    assert_eq!(rt; source.read(&mut out), Ok(2));
+    assert_eq!(rt; out[..2], [b'e', b'f']);
     Ok(())
 }

@@ -72,7 +72,9 @@ impl NoLink {
 }
 
 impl Link for NoLink {
-    ghost faults = { λ link. link.faults };
+    ghost use Rattle.mu_outside.specs.Link.{untold_link};
+
+    ghost seen = { λ link. untold_link link.faults };
 
     ghost bounded = { λ link. link.counted };
 
@@ -97,6 +99,10 @@ impl Link for NoLink {
 pub struct NoClock;
 
 impl Clock for NoClock {
+    ghost use Rattle.std.specs.Prelude.{None};
+
+    ghost answered = { λ _. None };
+
     fn now(&mut self) -> u64
         ensures { result ≡ 0 }
     {

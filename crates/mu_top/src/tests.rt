@@ -1,7 +1,5 @@
-ghost use Rattle.std.specs.Prelude.{◌<◌, ◌^◌};
-
 use crate::{WordList, top};
-use mu_outside::{BytesSink, BytesSource, Clock, Failed, Incoming, Link, RamFlash};
+use mu_outside::{BytesSink, BytesSource, RamFlash, RamLink, SetClock};
 use std::alloc::Global;
 use std::process::Abort;
 use std::test::Fail;
@@ -12,45 +10,7 @@ const ONE_NODE: &[u8] =
 const ONE_NODE_ANSWERS: &[u8] =
     b"sent 0 0001 0002 83080001\nsent 1 0002 0001 8309010026ffff01000000ca978112ca1bbdcafac231b39a23dc4da786eff8147c4e72b9807785afee48bb00\nactive 0002 1 1 ca978112ca1bbdcafac231b39a23dc4da786eff8147c4e72b9807785afee48bb\n";
 
-/// A link all of whose calls fail.
-#[derive(Drop)]
-struct DeadLink {
-    faults: u64,
-    ghost counted: { faults < 2 ^ 64 },
-}
-
-impl Link for DeadLink {
-    ghost faults = { λ link. link.faults };
-
-    ghost bounded = { λ link. link.counted };
-
-    fn bind(&mut self, _addr: u16) -> Result<(), Failed> {
-        self.faults = self.faults.saturating_add(1);
-        Err(Failed)
-    }
-
-    fn send(&mut self, _from: u16, _to: u16, _bytes: &[u8]) -> Result<(), Failed> {
-        self.faults = self.faults.saturating_add(1);
-        Err(Failed)
-    }
-
-    fn receive(&mut self, _at: u16) -> Result<Incoming, Failed> {
-        self.faults = self.faults.saturating_add(1);
-        Err(Failed)
-    }
-}
-
-/// A clock that stands still.
-#[derive(Drop)]
-struct StillClock;
-
-impl Clock for StillClock {
-    fn now(&mut self) -> u64 {
-        0
-    }
-}
-
-/// What `top` with these words makes of a source and a sink.
+/// What `top` with these words makes of a source and a sink. No call of the link succeeds.
 fn status_of(
     alloc: Global,
     words: &[&str],
@@ -62,16 +22,9 @@ fn status_of(
         list.add(word);
     }
     let flash = RamFlash::new(alloc, 1)?;
-    let mut link = DeadLink { faults: 0 };
-    let ended = top(
-        alloc,
-        &list,
-        source,
-        sink,
-        flash,
-        &mut link,
-        &mut StillClock,
-    );
+    let mut link = RamLink::new(alloc, 0, 0, &[1])?;
+    let mut clock = SetClock::new(alloc, &[])?;
+    let ended = top(alloc, &list, source, sink, flash, &mut link, &mut clock);
     Ok(ended.status)
 }
 
