@@ -63,6 +63,6 @@ fn a_limit_ends_an_input_early(rt: HostRuntime) -> Result<(), Fail> {
     assert_eq!(rt; limited.read(&mut out), Ok(0));
     assert_eq!(rt; source.read(&mut out), Err(Failed));
     assert_eq!(rt; source.read(&mut out), Ok(2));
-    assert_eq!(rt; out[..2], [b'e', b'f']);
+    assert_eq!(rt; out, [b'e', b'f', b'c']);
     Ok(())
 }
