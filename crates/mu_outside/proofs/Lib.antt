@@ -1,4 +1,5 @@
 pub mod ClockLemmas
+pub mod Handing
 pub mod LimitedLemmas
 pub mod LinkLemmas
 pub mod ListLemmas

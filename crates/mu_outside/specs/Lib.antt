@@ -1,5 +1,7 @@
 pub mod Bytes
 pub mod FaultyFlash
+pub mod Gathered
+pub mod Gathering
 pub mod Limited
 pub mod Link
 pub mod Memory

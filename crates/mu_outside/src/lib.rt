@@ -9,6 +9,7 @@ mod clock;
 mod cut;
 mod faulty;
 mod flash;
+mod gathered;
 mod limited;
 mod link;
 mod memory;
@@ -25,6 +26,7 @@ pub use clock::Clock;
 pub use cut::CutFlash;
 pub use faulty::FaultyFlash;
 pub use flash::{Flash, Plug};
+pub use gathered::{Gather, Gathered, Lent, Loan};
 pub use limited::Limited;
 pub use link::{Incoming, Link};
 pub use mu_model_flash::{Failed, Pattern};
@@ -36,6 +38,8 @@ pub use source::Source;
 
 #[cfg(test)]
 mod flash_tests;
+#[cfg(test)]
+mod gathered_tests;
 #[cfg(test)]
 mod link_tests;
 #[cfg(test)]
