@@ -1,0 +1,11 @@
+pub mod Scenes
+pub mod TablesOfTransfer
+pub mod TablesOfRest
+pub mod Tables
+pub mod Ranks
+pub mod RunsOfPush
+pub mod RunsOfRest
+pub mod Runs
+pub mod Initiating
+pub mod RunsOfInitiator
+pub mod Initiators
