@@ -16,7 +16,7 @@ block_by_block = record { held_again = refl; reports_by_length = refl; smaller_m
 
 pub update_by_update : UpdateByUpdate
 unfolding word_at octets_at opcode_at sha256 digest_bytes hash_after compress rounds schedule first_words
-update_by_update = record { timeout = refl; timeout_by_base = refl; timeout_from_last = refl; earlier_moment = refl; cancel_unbegun = refl; cancel_begun = refl; whole_after_a_cut = refl; cancels = refl; another_start = refl }
+update_by_update = record { timeout = refl; timeout_by_base = refl; timeout_forgets = refl; timeout_from_last = refl; earlier_moment = refl; cancel_unbegun = refl; cancel_begun = refl; whole_after_a_cut = refl; cancels = refl; another_start = refl }
 
 pub addresses : Addresses
 unfolding word_at octets_at opcode_at pattern_at
@@ -24,7 +24,7 @@ addresses = record { own = refl; group = refl; other_group = refl; other = refl;
 
 pub moments : Moments
 unfolding word_at octets_at opcode_at
-moments = record { unread = refl; to_another = refl; heard_then = refl }
+moments = record { unread = refl; to_another = refl; to_another_later = refl; heard_then = refl }
 
 pub logs_are : Logs
 unfolding word_at octets_at opcode_at sha256 digest_bytes hash_after compress rounds schedule first_words

@@ -38,7 +38,8 @@ pub record Addresses : Type 0 where
 -- a packet that isn't handled changes nothing but the last moment
 pub record Moments : Type 0 where
   pub unread : seen (state_after node_two (at to_start) (Done (heard []) 10000 ∷ Done TimeComes 0 ∷ [])) ≡ 3 ∷ 1 ∷ 0 ∷ []
-  pub to_another : seen (state_after node_two (at to_start) (Done (PacketComes (record { from = 1; to = 3; payload = update_cancel })) 10000 ∷ [])) ≡ 3 ∷ 2 ∷ 1 ∷ []
+  pub to_another : seen (state_after node_two (at to_start) (Done (PacketComes (record { from = 1; to = 3; payload = update_cancel })) 9999 ∷ Done TimeComes 0 ∷ [])) ≡ 3 ∷ 2 ∷ 1 ∷ []
+  pub to_another_later : seen (state_after node_two (at to_start) (Done (PacketComes (record { from = 1; to = 3; payload = update_cancel })) 10000 ∷ Done TimeComes 0 ∷ [])) ≡ 3 ∷ 1 ∷ 0 ∷ []
   pub heard_then : seen (state_after node_two (at to_start) (Done (heard update_start) 4000 ∷ Done TimeComes 13999 ∷ [])) ≡ 3 ∷ 2 ∷ 1 ∷ []
 
 -- ---- the log

@@ -1,7 +1,7 @@
 -- The runs, each evaluated.
 use Rattle.mu_model_node_rows.specs.Turns.{Goes, of_pages}
 use Rattle.mu_model_node_rows.specs.RunsOfBlocks.{held_again, reports_by_length, smaller_messages, larger_messages, pull_soon, pull_some, pull_next, pull_part, pull_next_block, client_stands, client_changes, get_in_complete}
-use Rattle.mu_model_node_rows.specs.RunsOfUpdates.{timeout, timeout_by_base, timeout_from_last, earlier_moment, cancel_unbegun, cancel_begun, whole_after_a_cut, cancels, another_start}
+use Rattle.mu_model_node_rows.specs.RunsOfUpdates.{timeout, timeout_by_base, timeout_forgets, timeout_from_last, earlier_moment, cancel_unbegun, cancel_begun, whole_after_a_cut, cancels, another_start}
 
 pub record BlockByBlock : Type 0 where
   pub held_again : Goes (of_pages 2) held_again
@@ -20,6 +20,7 @@ pub record BlockByBlock : Type 0 where
 pub record UpdateByUpdate : Type 0 where
   pub timeout : Goes (of_pages 1) timeout
   pub timeout_by_base : Goes (of_pages 1) timeout_by_base
+  pub timeout_forgets : Goes (of_pages 2) timeout_forgets
   pub timeout_from_last : Goes (of_pages 1) timeout_from_last
   pub earlier_moment : Goes (of_pages 1) earlier_moment
   pub cancel_unbegun : Goes (of_pages 1) cancel_unbegun

@@ -27,6 +27,20 @@ timeout_by_base =
     ∷ answers 20000 block_get (block_status 4 0 0 0) (4 ∷ 2 ∷ 2 ∷ [])
     ∷ []
 
+-- a link that is cut forgets the last block
+abbrev pub timeout_forgets : List Turn
+timeout_forgets =
+    answers 0 (start_of 5 0 7 (sized 8 0x10 2)) (update_status 0x40) (3 ∷ 2 ∷ 1 ∷ [])
+    ∷ answers 0 (start_transfer 0x40 7 8 0x10 12 0x7c 1) (transfer_status_of 0x40 2 (8 ∷ 0x10 ∷ 0 ∷ 0 ∷ 0xc ∷ 0x7c ∷ 1 ∷ []) 3) (4 ∷ 2 ∷ 2 ∷ [])
+    ∷ answers 0 (block_start 1 8 0) (block_status 0 1 8 0) (4 ∷ 2 ∷ 3 ∷ [])
+    ∷ takes 0 (chunk 0 (replicate 8 0x61)) (4 ∷ 2 ∷ 2 ∷ [])
+    ∷ answers 0 block_get (block_status 0x40 1 8 0) (4 ∷ 2 ∷ 2 ∷ [])
+    ∷ waits 10000 (4 ∷ 1 ∷ 5 ∷ [])
+    ∷ answers 10000 (start_of 5 0 7 (sized 8 0x10 2)) (update_status 0x40) (4 ∷ 2 ∷ 5 ∷ [])
+    ∷ answers 10000 (start_transfer 0x40 7 8 0x10 12 0x7c 1) (transfer_status_of 0x40 2 (8 ∷ 0x10 ∷ 0 ∷ 0 ∷ 0xc ∷ 0x7c ∷ 1 ∷ []) 1) (4 ∷ 2 ∷ 2 ∷ [])
+    ∷ answers 10000 block_get (block_status 4 0 0 0) (4 ∷ 2 ∷ 2 ∷ [])
+    ∷ []
+
 -- from the last word on; Update Get, Transfer Get and a refusal are none
 abbrev pub timeout_from_last : List Turn
 timeout_from_last =
