@@ -1,0 +1,3 @@
+pub mod NodeIn
+pub mod Steps
+pub mod Kept
