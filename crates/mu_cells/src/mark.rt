@@ -20,6 +20,19 @@ pub enum Mark {
     Other,
 }
 
+impl Mark {
+    /// What an octet is as a mark.
+    pub fn of(octet: u8) -> Mark
+        ensures { result ≡ mark_of octet }
+    {
+        match octet {
+            0xFF => Mark::Unset,
+            0xFE => Mark::Set,
+            _ => Mark::Other,
+        }
+    }
+}
+
 /// Sets the mark at a place that reads FF: one program of the octet FE. The page of the place is below 1,048,576.
 pub fn write_mark<F: Flash>(flash: &mut F, at: u32) -> Result<(), Failed>
     requires within { at < 4096 * (F.seen flash.old).pages }
@@ -46,9 +59,5 @@ pub fn read_mark<F: Flash>(flash: &mut F, at: u32) -> Result<Mark, Failed>
 {
     let mut octet = [0];
     flash.read(at, &mut octet)?;
-    Ok(match octet[0] {
-        0xFF => Mark::Unset,
-        0xFE => Mark::Set,
-        _ => Mark::Other,
-    })
+    Ok(Mark::of(octet[0]))
 }

@@ -1,8 +1,8 @@
 // The present record of a store, found on the control pages.
 ghost use Rattle.std.specs.Prelude.{◌≡◌, ◌≢◌, ◌+◌, ◌*◌, ◌<◌, ◌≤◌, ◌++◌, ◌^◌, false, IsTrue, IfOk, OnOk, Option, Result, length};
 ghost use Rattle.mu_model_flash.specs.Flash.{Unchanged};
-ghost use Rattle.mu_model_record.specs.Code.{IsCodeWord};
-ghost use Rattle.mu_model_record.specs.Page.{page_of, slot_in, IsLong};
+ghost use Rattle.mu_model_record.specs.Code.{IsCodeWord, content_of};
+ghost use Rattle.mu_model_record.specs.Page.{page_of, slot_of, slot_in, IsLong};
 ghost use Rattle.mu_model_record.specs.Record.{zeros};
 ghost use Rattle.mu_record.specs.Found.{found_with, FoundBefore, IsFound, IsSoundFound};
 ghost use Rattle.mu_record.specs.Reads.{ReadsOnly};
@@ -64,11 +64,17 @@ fn widened(slot: &[u8; 512]) -> [u8; 2048]
     octets
 }
 
-// Goes through the slots of a control page whose first word is short.
-fn scan_slots<F: Flash>(flash: &mut F, page: u32, before: Found) -> Result<Found, Failed>
+// Goes through the slots of a control page whose first word is short, and is read already.
+fn scan_slots<F: Flash>(
+    flash: &mut F,
+    page: u32,
+    first: &[u8; 512],
+    before: Found,
+) -> Result<Found, Failed>
     requires within { page < (F.seen flash.old).pages }
     requires control { page < 2 }
     requires short { IsTrue (F.seen flash.old).told → IsCodeWord (slot_in (page_of (F.seen flash.old).octets page) 0) × ¬ IsLong (page_of (F.seen flash.old).octets page) }
+    requires first { IsTrue (F.seen flash.old).told → first.now ≡ content_of (slot_of (F.seen flash.old).octets page 0) }
     requires found { IsTrue (F.seen flash.old).told → FoundBefore (F.seen flash.old).octets page 0 before }
     requires sound { IsSoundFound before }
     ensures found { IsTrue (F.seen flash.old).told → IfOk result (FoundBefore (F.seen flash.old).octets page 4) }
@@ -77,8 +83,8 @@ fn scan_slots<F: Flash>(flash: &mut F, page: u32, before: Found) -> Result<Found
 {
     runs::<Ways<F>>();
     pages_of_a_flash();
-    let mut found = before;
-    for slot in 0..4u8 {
+    let mut found = before.with(page, record_from(&widened(first), SHORT));
+    for slot in 1..4u8 {
         if let Some(octets) = read_slot(flash, page, slot)? {
             found = found.with(page, record_from(&widened(&octets), SHORT));
         }
@@ -102,7 +108,7 @@ fn scan_page<F: Flash>(flash: &mut F, page: u32, before: Found) -> Result<Found,
         return Ok(before);
     };
     if first[4] != LONG {
-        return scan_slots(flash, page, before);
+        return scan_slots(flash, page, &first, before);
     }
     match read_page(flash, page)? {
         Some(octets) => Ok(before.with(page, record_from(&octets, LONG))),

@@ -4,6 +4,7 @@ pub mod RunOfPages
 pub mod PagePuts
 pub mod StoreLemmas
 pub mod ReadLemmas
+pub mod FlagLemmas
 pub mod JudgeLemmas
 pub mod BootLemmas
 pub mod FreeBase

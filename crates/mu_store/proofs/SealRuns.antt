@@ -1,5 +1,5 @@
 -- A bank that is hashed and then sealed or given up.
-use Rattle.std.proofs.Common.{◌≡◌, cond, ℕ, ◌*◌, ◌<◌, ◌≤◌, Bool, true, false, Option, None, List, length, refl, sym, ◌∙◌, ap, subst, arith}
+use Rattle.std.proofs.Common.{◌≡◌, cond, ℕ, ◌*◌, ◌<◌, ◌≤◌, Bool, true, false, IsTrue, Option, None, List, length, refl, sym, ◌∙◌, ap, subst, arith}
 use Rattle.std.specs.Prelude.{slice_index_or}
 use Rattle.std.proofs.Math.ListN.{set}
 use Rattle.sha2.specs.Sha256.{sha256}
@@ -95,3 +95,17 @@ module _ (known : Known) (a : Seen) (page fresh : ℕ) (d : StoreState) (holds :
     pub emptied_where : (fit unfit : List ℕ) → (HasDigest fields bank size meta a.octets → ⊥) → sealed_or_not d bank meta fit unfit ≡ emptied d bank unfit
     emptied_where fit unfit never =
         ap (λ (b : Bool). cond b (sealed_up d bank meta (joined (blocks_in (content_of_bank d bank))) fit) (emptied d bank unfit)) (test_false never)
+
+-- the octets of a bank, whatever the flash represents
+module _ (known : Known) (a : Seen) (sound : IsSound a) (told : IsTrue a.told) (fields : Record) (pages : a.pages ≡ pages_of fields) (bank size : ℕ) (there : bank < fields.number) (most : size ≤ capacity_of fields) (meta : Meta) (tested : FitIsTested) where
+  octets_long : length (part_of a.octets (bank_place fields bank) size) ≡ size
+  octets_long =
+      let within = known.places.bank_within fields bank size there most in
+      length-part a.octets (bank_place fields bank) size (omega (arith, within, pages, (sound.is_image told).size))
+
+  pub octets_fit : HasDigest fields bank size meta a.octets → is_fit (part_of a.octets (bank_place fields bank) size) meta ≡ true
+  octets_fit has = (tested (part_of a.octets (bank_place fields bank) size) meta).1 (record { size = octets_long ∙ has.0; digest = has.1 })
+
+  pub octets_unfit : (HasDigest fields bank size meta a.octets → ⊥) → is_fit (part_of a.octets (bank_place fields bank) size) meta ≡ false
+  octets_unfit never = not_true (is_fit (part_of a.octets (bank_place fields bank) size) meta)
+      (λ yes. let fit = (tested (part_of a.octets (bank_place fields bank) size) meta).0 yes in never (sym octets_long ∙ fit.size, fit.digest))

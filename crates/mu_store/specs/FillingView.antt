@@ -1,6 +1,7 @@
 -- What callers see of a store of which a bank is being filled.
-use Rattle.std.specs.Prelude.{◌≡◌, ℕ, ◌≤◌, Bool, List, Result, MatchResult}
+use Rattle.std.specs.Prelude.{◌≡◌, ℕ, ◌≤◌, Bool, List, take, Result, MatchResult}
 use Rattle.mu_model_flash.specs.Flash.{Seen}
+use Rattle.mu_model_image.specs.Pieces.{block_count}
 use Rattle.mu_model_record.specs.declared.Record.{Record}
 use Rattle.mu_store.specs.View.{FaultOf}
 use Rattle.mu_store.specs.declared.filling.Filling.{Filling}
@@ -29,9 +30,9 @@ filling_size filling = filling.size
 abbrev pub filling_log : {F : Type 0} {g : _} → Filling F g → ℕ
 filling_log filling = filling.log
 
--- whether each block is held
+-- whether each block is held: a flag for each block of the image, and none past the last
 abbrev pub filling_flags : {F : Type 0} {g : _} → Filling F g → List Bool
-filling_flags filling = filling.held
+filling_flags filling = take (block_count filling.size filling.log) filling.held
 
 -- this bank is being filled with an image of this size and log, and these blocks are held
 abbrev pub IsFillingOf : {F : Type 0} {g : _} → ℕ → ℕ → ℕ → List Bool → Filling F g → Type 0

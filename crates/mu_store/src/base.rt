@@ -20,7 +20,7 @@ pub(crate) struct Base<F: Flash> {
     pub(crate) fields: Record,
     ghost is_place: { IsPlace (F.seen flash) place.page place.fresh },
     ghost pages: { (F.seen flash).pages ≡ pages_of fields },
-    ghost in_range: { IsRecord fields } by { record_prop fields },
+    pub ghost in_range: { IsRecord fields } by { record_prop fields },
 }
 
 impl<F: Flash> Base<F> {

@@ -52,6 +52,7 @@ fn make<F: Flash>(flash: F, page: u32, fields: Record, marks: Option<Marks>) -> 
     requires marks { IsTrue (F.seen flash).told → AreMarksOf marks (F.seen flash).octets }
     ensures { IsMade flash page fields marks result }
 {
+    known();
     let base = Base {
         flash,
         place: Place { page, fresh: 0 },

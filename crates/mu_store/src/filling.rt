@@ -1,5 +1,5 @@
 // A store of which one bank is being filled.
-ghost use Rattle.std.specs.Prelude.{◌≡◌, ℕ, ◌+◌, ◌-◌, ◌*◌, ◌<◌, ◌≤◌, ◌^◌, ◌↔◌, IfOk, IfErr, IsErrAnd, IsTrue, false, slice_index, slice_index_or};
+ghost use Rattle.std.specs.Prelude.{◌≡◌, ℕ, ◌+◌, ◌-◌, ◌*◌, ◌<◌, ◌≤◌, ◌^◌, ◌↔◌, IfOk, IfErr, IsErrAnd, IsTrue, false, length, take, slice_index, slice_index_or};
 ghost use Rattle.mu_model_image.specs.Pieces.{block_count};
 ghost use Rattle.mu_model_record.specs.declared.BankState.TheVariants.{Filling};
 ghost use Rattle.mu_model_record.specs.Record.{IsRecord, entry_of};
@@ -11,7 +11,7 @@ use crate::digest::bank_place;
 use crate::entries::with_entry;
 use crate::faults::{Stopped, StoreFault};
 use crate::laws::known;
-use crate::marks::count_flags;
+use crate::marks::{all_flags, count_flags};
 use crate::pages::PAGE;
 use crate::store::Store;
 use mu_arith::block_count;
@@ -28,8 +28,10 @@ pub struct Filling<F: Flash> {
     pub(crate) size: u32,
     pub(crate) log: u8,
     pub(crate) held: [bool; 256],
-    ghost there: { bank < base.fields.number },
-    ghost entry: { entry_of base.fields bank ≡ Filling size log } by { bank_set (entry_of base.fields bank) (Filling size log) },
+    pub ghost there: { bank < base.fields.number },
+    pub ghost few: { block_count size log ≤ 256 },
+    pub ghost as_many: { length (take (block_count size log) held) ≡ block_count size log },
+    pub ghost entry: { entry_of base.fields bank ≡ Filling size log } by { bank_set (entry_of base.fields bank) (Filling size log) },
     ghost unset: { IsTrue (F.seen base.flash).told → (i : ℕ) → i < block_count size log → slice_index_or held i false ≡ false → slice_index (F.seen base.flash).octets (mark_place bank i) ≡ 0xFF },
 }
 
@@ -46,8 +48,8 @@ fn block_page(fields: &Record, bank: u8, log: u8, i: u16) -> u32
 }
 
 impl<F: Flash> Filling<F> {
-    ghost use Rattle.std.specs.Prelude.{slice_set, length, take, is_some, true};
-    ghost use Rattle.std.specs.List.{count_by};
+    ghost use Rattle.std.specs.Prelude.{slice_set, is_some, true};
+    ghost use Rattle.std.specs.List.{All, count_by};
     ghost use Rattle.mu_model_image.specs.Pieces.{block_length, piece_count};
     ghost use Rattle.mu_model_flash.specs.Run.{either, Goes};
     ghost use Rattle.mu_model_record.specs.Store.{StoreState, content_of_bank};
@@ -242,17 +244,27 @@ impl<F: Flash> Filling<F> {
         self.log
     }
 
-    /// Whether block `i` is held. It is below 256.
+    /// Whether block `i` is held; past the last block none is.
     pub fn held(&self, i: u16) -> bool
-        requires { i < 256 }
         ensures { result ≡ slice_index_or (filling_flags self.now) i false }
     {
-        self.held[i as usize]
+        if i < block_count(self.size, self.log) {
+            self.held[i as usize]
+        } else {
+            false
+        }
+    }
+
+    /// Whether every block is held, as `seal` asks for.
+    pub fn all_held(&self) -> bool
+        ensures { IsTrue result ↔ All IsTrue (filling_flags self.now) }
+    {
+        all_flags(&self.held, block_count(self.size, self.log))
     }
 
     /// How many blocks are held.
     pub fn held_count(&self) -> u16
-        ensures flags { result ≡ count_by (λ held. held) (take (block_count (filling_size self.now) (filling_log self.now)) (filling_flags self.now)) }
+        ensures flags { result ≡ count_by (λ held. held) (filling_flags self.now) }
         ensures state { (d : StoreState) → FillingHolds F.seen self.now d → result ≡ count_by is_some (blocks_in (content_of_bank d (filling_bank self.now))) }
     {
         known();

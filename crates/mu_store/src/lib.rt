@@ -2,22 +2,14 @@
 #![tactic(auto)]
 
 mod base;
-#[cfg(test)]
-mod boot_tests;
 mod booting;
-#[cfg(test)]
-mod cut_tests;
 mod digest;
 mod entries;
 mod faults;
-#[cfg(test)]
-mod fill_tests;
 mod filling;
 mod formatting;
 mod judge;
 mod laws;
-#[cfg(test)]
-mod made;
 mod marks;
 mod pages;
 mod plugging;
@@ -26,8 +18,6 @@ mod sealing;
 mod source;
 mod store;
 mod whole;
-#[cfg(test)]
-mod worn_tests;
 
 pub use booting::{BootFail, BootWhy, Booted, boot};
 pub use faults::{Stopped, StoreFault};

@@ -1,11 +1,11 @@
 // A bank that is sealed.
-ghost use Rattle.std.specs.Prelude.{◌≡◌, ℕ, ◌-◌, ◌<◌, ◌^◌, ◌↔◌, true, false, IfOk, IfErr, IsErrAnd, IsTrue, MatchResult, slice_index_or, slice_set};
-ghost use Rattle.mu_model_flash.specs.Bits.{AreOctets};
+ghost use Rattle.std.specs.Prelude.{◌≡◌, ℕ, ◌-◌, ◌<◌, ◌^◌, ◌↔◌, true, IfOk, IfErr, IsErrAnd, IsTrue, MatchResult, slice_set};
+ghost use Rattle.std.specs.List.{All};
+ghost use Rattle.mu_model_flash.specs.Bits.{AreOctets, part_of};
 ghost use Rattle.mu_model_flash.specs.Flash.{Unchanged};
 ghost use Rattle.mu_model_flash.specs.Run.{either, Ran, Broke, Goes};
 ghost use Rattle.mu_model_image.specs.Meta.{is_fit, IsMeta};
-ghost use Rattle.mu_model_image.specs.Pieces.{block_count};
-ghost use Rattle.mu_model_record.specs.Store.{StoreState, content_of_bank};
+ghost use Rattle.mu_model_record.specs.Store.{StoreState, bank_place, content_of_bank};
 ghost use Rattle.mu_model_record.specs.Represents.{RepresentsStore};
 ghost use Rattle.mu_model_record.specs.Next.{IsNext, record_steps, fresh_after};
 ghost use Rattle.mu_model_record.specs.Changes.{next_record, sealed_entry, joined, blocks_in, sealed_or_not};
@@ -155,10 +155,13 @@ impl<F: Flash> Filling<F> {
     /// with the tag `fit`; else it becomes Empty, in one record with the tag `unfit`. `Worn` comes where the count stands at 4,294,967,295, before
     /// anything is read. Where the flash fails, no operation begins after the one that failed.
     pub fn seal(self, meta: &Meta, fit: &Tag, unfit: &Tag) -> Result<Sealing<F>, Stopped<F>>
-        requires all { (i : ℕ) → i < block_count (filling_size self) (filling_log self) → slice_index_or (filling_flags self) i false ≡ true }
+        requires all { All IsTrue (filling_flags self) }
         ensures fields { IfOk result (IsClosed (filling_record self) (filling_bank self) meta.now fit.now unfit.now) }
         ensures fresh { IfOk result (λ sealing. sealing_fresh sealing ≡ fresh_after (filling_fresh self) (sealing_record sealing)) }
         ensures fit { (d : StoreState) → FillingHolds F.seen self d → IfOk result (λ sealing. is_sealed sealing ≡ is_fit (joined (blocks_in (content_of_bank d (filling_bank self)))) meta.now) }
+        ensures size { IfOk result (λ sealing. IsTrue (is_sealed sealing) → filling_size self ≡ meta.now.size) }
+        ensures octets { IsTrue (F.seen (filling_flash self)).told
+            → IfOk result (λ sealing. is_sealed sealing ≡ is_fit (part_of (F.seen (filling_flash self)).octets (bank_place (filling_record self) (filling_bank self)) (filling_size self)) meta.now) }
         ensures worn { IsErrAnd result (λ stopped. stopped.why ≡ StoreFault.Worn) ↔ ((filling_record self).count ≡ 2 ^ 32 - 1) }
         ensures untouched { IfErr result (λ stopped. stopped.why ≡ StoreFault.Worn → stopped.flash ≡ filling_flash self) }
         ensures runs { (d : StoreState) → FillingHolds F.seen self d

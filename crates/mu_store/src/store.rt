@@ -1,5 +1,5 @@
 // A store of which no bank is being filled.
-ghost use Rattle.std.specs.Prelude.{◌≡◌, ℕ, ◌+◌, ◌-◌, ◌*◌, ◌<◌, ◌^◌, ◌↔◌, ◌≤◌, ◌∷◌, slice_set, IfOk, IfErr, IsErrAnd, Some, None, false};
+ghost use Rattle.std.specs.Prelude.{◌≡◌, ℕ, ◌+◌, ◌-◌, ◌*◌, ◌<◌, ◌^◌, ◌↔◌, ◌≤◌, ◌∷◌, slice_set, replicate, IfOk, IfErr, IsErrAnd, Some, None, false};
 ghost use Rattle.mu_model_record.specs.Record.{IsFilling, entry_of};
 
 use crate::base::Base;
@@ -17,7 +17,7 @@ use mu_record::{BankState, Record, Tag};
 #[derive(Drop)]
 pub struct Store<F: Flash> {
     pub(crate) base: Base<F>,
-    ghost rests: { (b : ℕ) → ¬ IsFilling (entry_of base.fields b) },
+    pub ghost rests: { (b : ℕ) → ¬ IsFilling (entry_of base.fields b) },
 }
 
 impl<F: Flash> Store<F> {
@@ -27,7 +27,7 @@ impl<F: Flash> Store<F> {
     ghost use Rattle.mu_model_record.specs.Next.{record_steps, fresh_after};
     ghost use Rattle.mu_model_record.specs.Changes.{next_record, tagged, released, cleared, begun, filling_entry};
     ghost use Rattle.mu_model_record.specs.declared.BankState.TheVariants.{Empty};
-    ghost use Rattle.mu_store.specs.Marks.{no_flags};
+    ghost use Rattle.mu_model_image.specs.Pieces.{block_count};
     ghost use Rattle.mu_store.specs.Booted.{FillingHolds};
     ghost use Rattle.mu_store.specs.View.{store_flash, store_record, store_fresh, StoreHolds, stopped_seen, ByFlash, StoreFaults};
     ghost use Rattle.mu_store.specs.FillingView.{filling_flash, filling_record, filling_fresh, IsFillingOf, FillingFaults};
@@ -105,7 +105,7 @@ impl<F: Flash> Store<F> {
         requires log_least { 12 ≤ log }
         requires log_most { log ≤ 14 }
         ensures fields { IfOk result (λ filling. filling_record filling ≡ next_record (store_record self) (slice_set (store_record self).banks bank (filling_entry size log)) tag.now) }
-        ensures bank { IfOk result (λ filling. IsFillingOf bank size log no_flags filling) }
+        ensures bank { IfOk result (λ filling. IsFillingOf bank size log (replicate (block_count size log) false) filling) }
         ensures fresh { IfOk result (λ filling. filling_fresh filling ≡ fresh_after (store_fresh self) (filling_record filling)) }
         ensures worn { IsErrAnd result (λ stopped. stopped.why ≡ StoreFault.Worn) ↔ ((store_record self).count ≡ 2 ^ 32 - 1) }
         ensures untouched { IfErr result (λ stopped. stopped.why ≡ StoreFault.Worn → stopped.flash ≡ store_flash self) }

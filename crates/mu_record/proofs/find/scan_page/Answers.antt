@@ -1,6 +1,6 @@
 use Rattle.std.proofs.Common.{◌≡◌, ℕ, List, ◌+◌, ◌*◌, ◌≤◌, IsTrue, length, sym, subst, arith}
 use Rattle.mu_model_record.specs.Code.{IsCodeWord, content_of}
-use Rattle.mu_model_record.specs.Page.{page_of, slot_in, IsLong}
+use Rattle.mu_model_record.specs.Page.{page_of, slot_of, slot_in, IsLong}
 use Rattle.mu_record.specs.declared.find.Found.{Found}
 use Rattle.mu_record.specs.Found.{FoundBefore}
 use Rattle.mu_record.proofs.FoundLemmas.{still_told, match_none, match_some, page_none, first_code, is_short, long_none, long_some}
@@ -21,6 +21,13 @@ scan_slots-requires-clause-short g c now_told =
     let code = match_some _ _ c.in_ok-first.field-0 c.in-Some.first (c.in_ok-first.ensures.content told) c.in-Some.is in
     subst (λ (o : List ℕ). IsCodeWord (slot_in (page_of o c.args.page) 0) × ¬ IsLong (page_of o c.args.page)) (sym (c.in_ok-first.ensures.same.octets told))
     (first_code c.pages_of_a_flash.ensures.slots a.octets c.args.page c.requires.control within c.args.before (c.requires.found told) c.in-Some.first code, is_short c.pages_of_a_flash.ensures.slots a.octets c.args.page c.requires.control within c.args.before (c.requires.found told) c.in-Some.first code c.if-first-ne-LONG.true)
+
+pub scan_slots-requires-clause-first : goal.scan_slots-requires-clause-first
+scan_slots-requires-clause-first g c now_told =
+    let a = g.F.Flash.seen c.args.flash.now in
+    let told : IsTrue a.told = subst (λ t. IsTrue t) c.in_ok-first.ensures.same.told now_told in
+    let code = match_some _ _ c.in_ok-first.field-0 c.in-Some.first (c.in_ok-first.ensures.content told) c.in-Some.is in
+    subst (λ (o : List ℕ). c.in-Some.first ≡ content_of (slot_of o c.args.page 0)) (sym (c.in_ok-first.ensures.same.octets told)) code.1
 
 pub returns-in-Some-2-clause-found : goal.returns-in-Some-2-clause-found
 returns-in-Some-2-clause-found g c told =

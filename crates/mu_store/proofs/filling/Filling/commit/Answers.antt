@@ -15,6 +15,8 @@ invariant_of-result g c =
     let next = g.F.Flash.seen c.in-Ok.base.flash in
     record {
       there = subst (λ (r : Record). c.args.self.bank < r.number) (sym c.in-Ok.ensures.fields) c.args.self.there;
+      few = c.args.self.few;
+      as_many = c.args.self.as_many;
       entry = ap (λ (r : Record). entry_of r c.args.self.bank) c.in-Ok.ensures.fields ∙ c.args.self.entry;
       unset = λ told i lt no.
           let was = told_back seen next c.in-Ok.ensures.keeps told in

@@ -1,5 +1,6 @@
-use Rattle.std.proofs.Common.{◌≡◌, ◌∙◌, ◌+◌, ◌*◌, ◌<◌, ◌≤◌, ℕ, [], ◌∷◌, Some, length, replicate, sym, subst, ap, arith, rules}
+use Rattle.std.proofs.Common.{◌≡◌, ◌∙◌, ◌+◌, ◌*◌, ◌<◌, ◌≤◌, ℕ, [], ◌∷◌, true, Some, length, replicate, refl, sym, subst, ap, arith, rules}
 use Rattle.std.proofs.Math.ListN.{set}
+use Rattle.std.proofs.lemmas.List.{length-set}
 use Rattle.mu_model_image.specs.Pieces.{block_count, piece_count}
 use Rattle.mu_model_flash.specs.Run.{either, Ran, Broke}
 use Rattle.mu_model_record.specs.declared.Record.{Record}
@@ -12,6 +13,7 @@ use Rattle.mu_record.specs.Place.{HoldsAt}
 use Rattle.mu_store.specs.Base.{BaseHolds}
 use Rattle.mu_model_record.specs.Ways.{as_store}
 use Rattle.mu_store.proofs.BlockPut.{few_of, block_small, filling_range, put_free, mark_ran, mark_broke, put_content, put_flags, blocks_long, unset_then, last_block}
+use Rattle.mu_store.proofs.FlagLemmas.{length-taken, taken, taken_set}
 use Rattle.mu_store.proofs.RunLemmas.{last_same, told_back}
 use Rattle.mu_store.proofs.filling.Filling.put_block.Goals as goal
 
@@ -40,7 +42,7 @@ returns-in-Err-clause-runs g c d holds why =
     let i = c.args.i in
     let at : ℕ = 4096 * c.block_page-first.result in
     let free = (put_free c.known.ensures) d base.fields holds.base.fields self.bank self.size self.log self.there self.entry holds.blocks holds.content i c.requires.there (seen base.flash) base.place.page base.place.fresh holds.base.at
-    self.held c.requires.free (holds.flags i c.requires.there) at (length octets) c.block_page-first.ensures c.requires.whole in
+    self.held (sym (taken self.held (block_count self.size self.log) i c.requires.there) ∙ c.requires.free) (holds.flags i c.requires.there) at (length octets) c.block_page-first.ensures c.requires.whole in
     let n : ℕ = piece_count (length octets) 4096 in
     (c.runs.ensures.read base.flash c.in-Err.stopped.flash).longer as_store d (replicate (n + n) d) (with_block d self.bank i octets ∷ []) (c.in-Err.ensures.runs d holds.base free)
 
@@ -55,7 +57,7 @@ set_mark-requires-clause-is_unset g c now =
     let told = told_back (seen base.flash) (seen c.in-Ok.put.flash) c.in-Ok.ensures.keeps now in
     let low = (few_of c.known.ensures) base.fields self.bank self.size self.log base.in_range self.there self.entry in
     let before : mark_place self.bank i < at = omega (arith, c.block_page-first.ensures, c.requires.there, low, self.there) in
-    (c.in-Ok.ensures.stays told).before (mark_place self.bank i) before ∙ self.unset told i c.requires.there c.requires.free
+    (c.in-Ok.ensures.stays told).before (mark_place self.bank i) before ∙ self.unset told i c.requires.there (sym (taken self.held (block_count self.size self.log) i c.requires.there) ∙ c.requires.free)
 
 pub invariant_of-result : goal.invariant_of-result
 invariant_of-result g c =
@@ -73,6 +75,8 @@ invariant_of-result g c =
     let many : length self.held ≡ 256 = search rules in
     record {
       there = subst (λ (r : Record). self.bank < r.number) (sym fields) self.there;
+      few = self.few;
+      as_many = length-taken (set self.held i true) (block_count self.size self.log) (length-set self.held i true ∙ many) self.few;
       entry = ap (λ (r : Record). entry_of r self.bank) fields ∙ self.entry;
       unset = λ now.
           let told_b = told_back b f c.in-Ok-set_mark.ensures.keeps now in
@@ -81,6 +85,11 @@ invariant_of-result g c =
           (unset_then c.known.ensures) a.octets b.octets f.octets self.held self.bank i at (4096 * piece_count (length octets) 4096) (block_count self.size self.log) many (omega (arith, c.requires.there, low)) within
           (c.in-Ok-set_mark.ensures.runs.ends told_b) (c.in-Ok.ensures.stays told) (λ j lt. omega (arith, c.block_page-first.ensures, lt, low, self.there)) (self.unset told);
     }
+
+pub returns-in-Ok-set_mark-clause-bank : goal.returns-in-Ok-set_mark-clause-bank
+returns-in-Ok-set_mark-clause-bank g c =
+    let self = c.args.self in
+    (refl, refl, refl, taken_set self.held (block_count self.size self.log) c.args.i true c.requires.there)
 
 pub returns-in-Err-set_mark-clause-runs : goal.returns-in-Err-set_mark-clause-runs
 returns-in-Err-set_mark-clause-runs g c d holds why =
@@ -91,7 +100,7 @@ returns-in-Err-set_mark-clause-runs g c d holds why =
     let i = c.args.i in
     let at : ℕ = 4096 * c.block_page-first.result in
     let free = (put_free c.known.ensures) d base.fields holds.base.fields self.bank self.size self.log self.there self.entry holds.blocks holds.content i c.requires.there (seen base.flash) base.place.page base.place.fresh holds.base.at
-    self.held c.requires.free (holds.flags i c.requires.there) at (length octets) c.block_page-first.ensures c.requires.whole in
+    self.held (sym (taken self.held (block_count self.size self.log) i c.requires.there) ∙ c.requires.free) (holds.flags i c.requires.there) at (length octets) c.block_page-first.ensures c.requires.whole in
     let n : ℕ = piece_count (length octets) 4096 in
     let first = c.in-Ok.ensures.runs d holds.base free in
     let present = first.1.fields ∙ c.in-Ok.ensures.fields in
@@ -109,7 +118,7 @@ returns-in-Ok-set_mark-clause-runs g c d holds =
     let i = c.args.i in
     let at : ℕ = 4096 * c.block_page-first.result in
     let free = (put_free c.known.ensures) d base.fields holds.base.fields self.bank self.size self.log self.there self.entry holds.blocks holds.content i c.requires.there (seen base.flash) base.place.page base.place.fresh holds.base.at
-    self.held c.requires.free (holds.flags i c.requires.there) at (length octets) c.block_page-first.ensures c.requires.whole in
+    self.held (sym (taken self.held (block_count self.size self.log) i c.requires.there) ∙ c.requires.free) (holds.flags i c.requires.there) at (length octets) c.block_page-first.ensures c.requires.whole in
     let n : ℕ = piece_count (length octets) 4096 in
     let e = with_block d self.bank i octets in
     let first = c.in-Ok.ensures.runs d holds.base free in

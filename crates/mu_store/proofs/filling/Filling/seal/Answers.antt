@@ -1,4 +1,4 @@
-use Rattle.std.proofs.Common.{◌≡◌, ◌∙◌, ℕ, ◌<◌, true, None, List, [], sym, subst, ap}
+use Rattle.std.proofs.Common.{◌≡◌, ◌∙◌, ℕ, ◌<◌, true, false, None, List, [], sym, subst, ap, arith}
 use Rattle.std.specs.Prelude.{slice_index_or}
 use Rattle.mu_model_flash.specs.Run.{either, last_of, Ran, Broke}
 use Rattle.mu_model_image.specs.Pieces.{block_count}
@@ -12,9 +12,10 @@ use Rattle.mu_store.specs.Booted.{is_held}
 use Rattle.mu_store.specs.Sealed.{HasDigest}
 use Rattle.mu_model_record.specs.Ways.{as_store}
 use Rattle.mu_store.proofs.StoreLemmas.{last_steps}
+use Rattle.mu_store.proofs.FlagLemmas.{taken}
 use Rattle.mu_store.proofs.HashLemmas.{read_ran, read_broke}
 use Rattle.mu_store.proofs.SealLemmas.{most}
-use Rattle.mu_store.proofs.SealRuns.{hashed_holds, steps_are, next_then, present_then, test_true, test_false, sealed_where, emptied_where}
+use Rattle.mu_store.proofs.SealRuns.{hashed_holds, steps_are, next_then, octets_fit, octets_unfit, present_then, test_true, test_false, sealed_where, emptied_where}
 use Rattle.mu_store.proofs.filling.Filling.seal.Goals as goal
 
 pub returns-in-Err-clause-runs : goal.returns-in-Err-clause-runs
@@ -29,7 +30,7 @@ returns-in-Ok-close-clause-fit g c d holds =
     let self = c.args.self in
     let base = self.base in
     sym ((test_true c.known.ensures) (g.F.Flash.seen base.flash) base.place.page base.place.fresh d holds.base.at base.fields holds.base.fields self.bank self.size self.log self.there self.entry holds.blocks holds.content
-    (λ i lt. sym (holds.flags i lt) ∙ c.requires.all i lt) ((most c.known.ensures) base.fields base.in_range self.bank self.size self.log self.there self.entry c.args.meta.now) c.args.meta.now c.images.ensures.tested
+    (λ i lt. sym (holds.flags i lt) ∙ (sym (taken self.held (block_count self.size self.log) i lt) ∙ c.requires.all i false (omega (arith, lt, self.as_many)))) ((most c.known.ensures) base.fields base.in_range self.bank self.size self.log self.there self.entry c.args.meta.now) c.args.meta.now c.images.ensures.tested
     ((c.in-Ok.ensures.fit holds.base.at.told).0 c.if-is_fit.true))
 
 pub returns-in-Ok-give_up-clause-fit : goal.returns-in-Ok-give_up-clause-fit
@@ -37,8 +38,30 @@ returns-in-Ok-give_up-clause-fit g c d holds =
     let self = c.args.self in
     let base = self.base in
     sym ((test_false c.known.ensures) (g.F.Flash.seen base.flash) base.place.page base.place.fresh d holds.base.at base.fields holds.base.fields self.bank self.size self.log self.there self.entry holds.blocks holds.content
-    (λ i lt. sym (holds.flags i lt) ∙ c.requires.all i lt) ((most c.known.ensures) base.fields base.in_range self.bank self.size self.log self.there self.entry c.args.meta.now) c.args.meta.now c.images.ensures.tested
+    (λ i lt. sym (holds.flags i lt) ∙ (sym (taken self.held (block_count self.size self.log) i lt) ∙ c.requires.all i false (omega (arith, lt, self.as_many)))) ((most c.known.ensures) base.fields base.in_range self.bank self.size self.log self.there self.entry c.args.meta.now) c.args.meta.now c.images.ensures.tested
     (λ has. absurd (cc ((c.in-Ok.ensures.fit holds.base.at.told).1 has, c.if-is_fit.false))))
+
+pub returns-in-Ok-close-clause-size : goal.returns-in-Ok-close-clause-size
+returns-in-Ok-close-clause-size g c fit = c.in-Ok.ensures.size c.if-is_fit.true
+
+pub returns-in-Ok-give_up-clause-size : goal.returns-in-Ok-give_up-clause-size
+returns-in-Ok-give_up-clause-size g c fit = absurd (cc fit)
+
+pub returns-in-Ok-close-clause-octets : goal.returns-in-Ok-close-clause-octets
+returns-in-Ok-close-clause-octets g c told =
+    let self = c.args.self in
+    let base = self.base in
+    sym ((octets_fit c.known.ensures) (g.F.Flash.seen base.flash) (g.met.F.Flash.sound base.flash) told base.fields base.pages self.bank self.size self.there
+    ((most c.known.ensures) base.fields base.in_range self.bank self.size self.log self.there self.entry c.args.meta.now) c.args.meta.now c.images.ensures.tested
+    ((c.in-Ok.ensures.fit told).0 c.if-is_fit.true))
+
+pub returns-in-Ok-give_up-clause-octets : goal.returns-in-Ok-give_up-clause-octets
+returns-in-Ok-give_up-clause-octets g c told =
+    let self = c.args.self in
+    let base = self.base in
+    sym ((octets_unfit c.known.ensures) (g.F.Flash.seen base.flash) (g.met.F.Flash.sound base.flash) told base.fields base.pages self.bank self.size self.there
+    ((most c.known.ensures) base.fields base.in_range self.bank self.size self.log self.there self.entry c.args.meta.now) c.args.meta.now c.images.ensures.tested
+    (λ has. absurd (cc ((c.in-Ok.ensures.fit told).1 has, c.if-is_fit.false))))
 
 pub returns-in-Ok-close-clause-runs : goal.returns-in-Ok-close-clause-runs
 returns-in-Ok-close-clause-runs g c d holds =
@@ -54,7 +77,7 @@ returns-in-Ok-close-clause-runs g c d holds =
     let b = seen hashed.base.flash in
     let sound = g.met.F.Flash.sound base.flash in
     let few = (most c.known.ensures) base.fields base.in_range self.bank self.size self.log self.there self.entry meta in
-    let all : (i : ℕ) → i < block_count self.size self.log → is_held (slice_index_or holds.blocks i None) ≡ true = λ i lt. sym (holds.flags i lt) ∙ c.requires.all i lt in
+    let all : (i : ℕ) → i < block_count self.size self.log → is_held (slice_index_or holds.blocks i None) ≡ true = λ i lt. sym (holds.flags i lt) ∙ (sym (taken self.held (block_count self.size self.log) i lt) ∙ c.requires.all i false (omega (arith, lt, self.as_many))) in
     let now = hashed_holds seen self hashed sound reads same d holds in
     let has = (c.in-Ok.ensures.fit at.told).0 c.if-is_fit.true in
     let e = sealed_up d self.bank meta (joined holds.blocks) c.args.fit.now in
@@ -82,7 +105,7 @@ returns-in-Err-close-clause-runs g c d holds why =
     let b = seen hashed.base.flash in
     let sound = g.met.F.Flash.sound base.flash in
     let few = (most c.known.ensures) base.fields base.in_range self.bank self.size self.log self.there self.entry meta in
-    let all : (i : ℕ) → i < block_count self.size self.log → is_held (slice_index_or holds.blocks i None) ≡ true = λ i lt. sym (holds.flags i lt) ∙ c.requires.all i lt in
+    let all : (i : ℕ) → i < block_count self.size self.log → is_held (slice_index_or holds.blocks i None) ≡ true = λ i lt. sym (holds.flags i lt) ∙ (sym (taken self.held (block_count self.size self.log) i lt) ∙ c.requires.all i false (omega (arith, lt, self.as_many))) in
     let now = hashed_holds seen self hashed sound reads same d holds in
     let has = (c.in-Ok.ensures.fit at.told).0 c.if-is_fit.true in
     let e = sealed_up d self.bank meta (joined holds.blocks) c.args.fit.now in
@@ -107,7 +130,7 @@ returns-in-Ok-give_up-clause-runs g c d holds =
     let b = seen hashed.base.flash in
     let sound = g.met.F.Flash.sound base.flash in
     let few = (most c.known.ensures) base.fields base.in_range self.bank self.size self.log self.there self.entry meta in
-    let all : (i : ℕ) → i < block_count self.size self.log → is_held (slice_index_or holds.blocks i None) ≡ true = λ i lt. sym (holds.flags i lt) ∙ c.requires.all i lt in
+    let all : (i : ℕ) → i < block_count self.size self.log → is_held (slice_index_or holds.blocks i None) ≡ true = λ i lt. sym (holds.flags i lt) ∙ (sym (taken self.held (block_count self.size self.log) i lt) ∙ c.requires.all i false (omega (arith, lt, self.as_many))) in
     let now = hashed_holds seen self hashed sound reads same d holds in
     let never : HasDigest base.fields self.bank self.size meta a.octets → ⊥ = λ has. absurd (cc ((c.in-Ok.ensures.fit at.told).1 has, c.if-is_fit.false)) in
     let e = emptied d hashed.bank c.args.unfit.now in
@@ -133,7 +156,7 @@ returns-in-Err-give_up-clause-runs g c d holds why =
     let b = seen hashed.base.flash in
     let sound = g.met.F.Flash.sound base.flash in
     let few = (most c.known.ensures) base.fields base.in_range self.bank self.size self.log self.there self.entry meta in
-    let all : (i : ℕ) → i < block_count self.size self.log → is_held (slice_index_or holds.blocks i None) ≡ true = λ i lt. sym (holds.flags i lt) ∙ c.requires.all i lt in
+    let all : (i : ℕ) → i < block_count self.size self.log → is_held (slice_index_or holds.blocks i None) ≡ true = λ i lt. sym (holds.flags i lt) ∙ (sym (taken self.held (block_count self.size self.log) i lt) ∙ c.requires.all i false (omega (arith, lt, self.as_many))) in
     let now = hashed_holds seen self hashed sound reads same d holds in
     let never : HasDigest base.fields self.bank self.size meta a.octets → ⊥ = λ has. absurd (cc ((c.in-Ok.ensures.fit at.told).1 has, c.if-is_fit.false)) in
     let e = emptied d hashed.bank c.args.unfit.now in

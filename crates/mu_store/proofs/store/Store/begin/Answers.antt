@@ -1,4 +1,4 @@
-use Rattle.std.proofs.Common.{◌≡◌, ◌∙◌, ◌*◌, ◌<◌, ◌≤◌, ℕ, [], ◌∷◌, List, None, length, replicate, sym, subst, ap, arith, get_or-set_same}
+use Rattle.std.proofs.Common.{◌≡◌, ◌∙◌, ◌*◌, ◌<◌, ◌≤◌, ℕ, [], ◌∷◌, Bool, List, None, length, take, replicate, refl, sym, subst, ap, arith, get_or-set_same}
 use Rattle.std.specs.Prelude.{slice_index_or}
 use Rattle.mu_model_image.specs.Pieces.{block_count}
 use Rattle.mu_model_flash.specs.Run.{either, Ran, Broke}
@@ -15,6 +15,8 @@ use Rattle.mu_store.specs.Base.{BaseHolds}
 use Rattle.mu_model_record.specs.Ways.{as_store}
 use Rattle.mu_store.proofs.StoreLemmas.{last_steps}
 use Rattle.mu_store.proofs.FillLemmas.{few_blocks, begun_then, begun_is, begun_content, begun_flags}
+use Rattle.mu_store.proofs.FlagLemmas.{length-taken, none_taken}
+use Rattle.mu_store.proofs.ReadLemmas.{length-no_flags}
 use Rattle.mu_store.proofs.RunLemmas.{told_back}
 use Rattle.mu_store.proofs.store.Store.begin.Goals as goal
 
@@ -34,12 +36,21 @@ invariant_of-result g c =
     let there : c.args.bank < length base.fields.banks = omega (arith, c.requires.there, base.in_range.number_most, base.in_range.four) in
     record {
       there = subst (λ (r : Record). c.args.bank < r.number) (sym fields) c.requires.there;
+      few = few;
+      as_many = length-taken c.no_flags-held.result (block_count c.args.size c.args.log) (ap length c.no_flags-held.ensures ∙ length-no_flags) few;
       entry = ap (λ (r : Record). entry_of r c.args.bank) fields ∙ ap (λ (l : List BankState). slice_index_or l c.args.bank Empty) c.with_entry.ensures
           ∙ get_or-set_same base.fields.banks c.args.bank (Filling c.args.size c.args.log) Empty there;
       unset = λ told i lt no.
           let was = told_back (g.F.Flash.seen erased.flash) (g.F.Flash.seen next.flash) c.in-Ok-write.ensures.keeps told in
           (c.in-Ok-write.ensures.stays was).after (mark_place c.args.bank i) (omega arith) ∙ c.in-Ok.ensures.blank was i (omega (arith, lt, few));
     }
+
+pub returns-in-Ok-write-clause-bank : goal.returns-in-Ok-write-clause-bank
+returns-in-Ok-write-clause-bank g c =
+    let base = c.args.self.base in
+    let n : ℕ = block_count c.args.size c.args.log in
+    let few = (few_blocks c.known.ensures) c.args.size c.args.log (omega (arith, c.requires.most, base.in_range.pages_most)) c.requires.log_least c.requires.log_most in
+    (refl, refl, refl, ap (λ (flags : List Bool). take n flags) c.no_flags-held.ensures ∙ none_taken n few)
 
 pub returns-in-Err-write-clause-runs : goal.returns-in-Err-write-clause-runs
 returns-in-Err-write-clause-runs g c d holds why =

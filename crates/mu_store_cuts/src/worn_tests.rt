@@ -1,8 +1,10 @@
 // Calls at the last count.
 use crate::made::{Change, PAGE, blank, code, flash, record};
-use crate::{BankState, Booted, FillWhy, Filling, Sealing, Stopped, Store, StoreFault, Tag, boot};
 use mu_image::Meta;
 use mu_outside::{BytesSource, FaultyFlash, Source};
+use mu_store::{
+    BankState, Booted, FillWhy, Filling, Sealing, Stopped, Store, StoreFault, Tag, boot,
+};
 use std::alloc::Global;
 use std::process::Abort;
 use std::test::Fail;
@@ -61,7 +63,7 @@ fn call_store(
 fn seal(rt: &impl Abort, filling: Filling<FaultyFlash>) -> (Option<StoreFault>, FaultyFlash) {
     assert_eq!(rt; filling.size(), 4096);
     assert_eq!(rt; filling.log(), 12);
-    assert!(rt; filling.held(0));
+    assert!(rt; filling.all_held());
     let meta = Meta {
         size: 4096,
         version: 1,

@@ -1,7 +1,7 @@
 // What a boot says of made flashes.
 use crate::made::{Change, PAGE, blank, code, flash, record};
-use crate::{BootFail, BootWhy, Booted, Store, Tag, boot};
 use mu_outside::{FaultyFlash, RamFlash};
+use mu_store::{BootFail, BootWhy, Booted, Store, Tag, boot};
 use std::alloc::Global;
 use std::process::Abort;
 use std::test::Fail;

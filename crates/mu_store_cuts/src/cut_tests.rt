@@ -1,7 +1,7 @@
 // Every operation of every call cut, and the flash booted again.
-use crate::{BankState, Booted, Filling, Sealing, Stopped, Store, Tag, boot, format};
 use mu_image::Meta;
 use mu_outside::{BytesSource, CutFlash, Pattern};
+use mu_store::{BankState, Booted, Filling, Sealing, Stopped, Store, Tag, boot, format};
 use std::alloc::Global;
 use std::process::Abort;
 use std::test::Fail;
@@ -153,6 +153,8 @@ fn put_first(rt: &impl Abort, filling: Filling<CutFlash>) -> Played {
     assert_eq!(rt; filling.size(), 4096);
     assert_eq!(rt; filling.log(), 12);
     assert!(rt; !filling.held(0));
+    assert!(rt; !filling.held(1));
+    assert!(rt; !filling.all_held());
     assert_eq!(rt; filling.held_count(), 0);
     fill(filling.put_block(0, &[5; 4096]))
 }
@@ -166,7 +168,7 @@ fn seal_first(
 ) -> Played {
     assert_eq!(rt; filling.size(), 4096);
     assert_eq!(rt; filling.log(), 12);
-    assert!(rt; filling.held(0));
+    assert!(rt; filling.all_held());
     assert_eq!(rt; filling.held_count(), 1);
     let meta = Meta {
         size: 4096,

@@ -1,7 +1,7 @@
 // A bank that is filled whole.
-use crate::{BankState, Booted, FillFail, FillWhy, Store, Tag, boot, format};
 use mu_image::Meta;
 use mu_outside::{BytesSource, FaultyFlash, Flash, Pattern, RamFlash};
+use mu_store::{BankState, Booted, FillFail, FillWhy, Store, Tag, boot, format};
 use std::alloc::Global;
 use std::process::Abort;
 use std::test::Fail;
