@@ -1,0 +1,2 @@
+pub mod DistributorIn
+pub mod Steps
