@@ -1,5 +1,5 @@
 -- Members stay in the ranges of the grammar over a turn, and so is all that they send.
-use Rattle.std.proofs.Common.{◌≡◌, ◌≤◌, ℕ, Bool, true, false, List, [], ◌∷◌, map, refl, ap, ◌∙◌, arith, max, ◌⊎◌, inl, inr}
+use Rattle.std.proofs.Common.{subst, sym, ◌≡◌, ◌≤◌, ℕ, Bool, true, false, List, [], ◌∷◌, map, refl, ap, ◌∙◌, arith, max, ◌⊎◌, inl, inr}
 use Rattle.std.specs.List.{AllByRecursion}
 use Rattle.mu_model_node.specs.NodeMessages.{Request, Reply}
 use Rattle.mu_model_node.specs.NodeState.{NodeState, update_phase}
@@ -104,12 +104,13 @@ module _ (laws : AllLaws) where
   updater_time : (x : Member) (c : Client) (image : List ℕ) (now : ℕ) → x.moment ≡ now → c.sending.from ≡ x.config.address → (is_ended c.place ≡ true) ⊎ ClientFits c image
       → TimedFits x (record { member = record x { part = IsUpdater (due c image now).next image }; sent = map (asked_by x.config.address) (due c image now).packets })
   updater_time x c image now e from (inl h) =
-      rw (due_ended c image now h) (record { member = (from, inl h); handed = rw e (at_least c.moment now); sent = tt })
+      subst (λ (q : Due). TimedFits x (record { member = record x { part = IsUpdater q.next image }; sent = map (asked_by x.config.address) q.packets }))
+      (sym (due_ended c image now h)) (record { member = (from, inl h); handed = rw e (at_least c.moment now); sent = tt })
   updater_time x c image now e from (inr h) =
       let fit = due_fits laws.pieces laws.plans c image now h in
       record {
         member = (ap (λ (p : Sending). p.from) (laws.plans.dues c image now).sending ∙ from, inr fit.next);
-        handed = rw (e, due_keeps image c now) (at_least c.moment now);
+        handed = subst (λ m. m ≤ (due c image now).next.moment) (sym e) (subst (λ m. now ≤ m) (sym (due_keeps image c now)) (at_least c.moment now));
         sent = asked_fit x.config.address (due c image now).packets fit.packets;
       }
 
