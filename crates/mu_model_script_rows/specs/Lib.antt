@@ -1,0 +1,4 @@
+pub mod Scenes
+pub mod Lines
+pub mod Texts
+pub mod Images
