@@ -89,6 +89,11 @@ SessionFits v blocks (Holds block size) = Unit {0}
 SessionFits v blocks (Opens p block size) =
     LacksWith v.serving p × (v.session.now.link ≡ Running) × (v.current ≡ None) × (block < blocks.count) × (blocks.is_held ≡ false) × (least_chunk ≤ size) × (size ≤ most_chunk)
 
+-- a block that is opened is the one that was asked for
+abbrev pub OpensThis : ℕ → SessionChange → Type 0
+OpensThis block (Opens p n size) = n ≡ block
+OpensThis block _ = Unit {0}
+
 -- the link stays, heard or not
 abbrev pub HearsOrKeeps : LinkChange → Type 0
 HearsOrKeeps Keeps = Unit {0}

@@ -9,7 +9,7 @@ ghost use Rattle.mu_blob_rows.specs.declared.looks.Look.{Look as AnyLook};
 ghost use Rattle.mu_blob_rows.specs.declared.looks.TransferLook.{TransferLook as AnyTransfer};
 ghost use Rattle.mu_blob_rows.specs.Sessions.{link_by};
 ghost use Rattle.mu_blob_rows.specs.Looks.{transfer_with, phase_with, server_with, PhaseOf};
-ghost use Rattle.mu_blob_rows.specs.Rows.{ChangeFits, told_by, block_told_by, BlocksLookSo, SessionFits, ReportFits, LacksWith, HearsOrKeeps, ChunkLooksSo, chunk_step, chunk_stepped, ChunkStepFits};
+ghost use Rattle.mu_blob_rows.specs.Rows.{ChangeFits, told_by, block_told_by, BlocksLookSo, SessionFits, OpensThis, ReportFits, LacksWith, HearsOrKeeps, ChunkLooksSo, chunk_step, chunk_stepped, ChunkStepFits};
 
 use crate::looks::{BlobPhase, Look, Serving, TransferLook};
 use crate::session::{LinkChange, SessionChange};
@@ -176,6 +176,7 @@ fn refused_block(status: u8, block: u16, chunk_size: u16) -> BlockTold
 fn next_block(parameters: Parameters, block: u16, chunk_size: u16, blocks: BlocksLook) -> BlockTold
     ensures known { result.status ≤ 7 }
     ensures report { (v : AnyLook) → ReportFits v result.report }
+    ensures opens { OpensThis block result.session }
     ensures session { (v : AnyLook) → LacksWith v.serving parameters → v.session.now.link ≡ Link.Running → v.current ≡ None → SessionFits v blocks result.session }
     ensures told { (v : AnyServer) (t : AnyTransfer) (held chunks : Slots) (to : ℕ) → BlocksLookSo held block blocks → on_block_start v to block chunk_size (NextBlock (transfer_with t held) parameters) ≡ block_told_by v to chunks result }
 {
@@ -208,6 +209,7 @@ pub(crate) fn decide_block_start<'a>(
     requires { PhaseOf look phase }
     ensures known { result.status ≤ 7 }
     ensures report { ReportFits look.entry result.report }
+    ensures opens { OpensThis block result.session }
     ensures session { SessionFits look.entry blocks result.session }
     ensures told { (held chunks : Slots) (to : ℕ) → BlocksLookSo held block blocks → on_block_start (server_with look.entry held chunks) to block chunk_size (phase_with phase held chunks) ≡ block_told_by (server_with look.entry held chunks) to chunks result }
 {

@@ -6,7 +6,7 @@ ghost use Rattle.mu_model_node.specs.BlobMessages.{TransferGet, TransferStart, T
 ghost use Rattle.mu_model_node.specs.BlobTable.{on_blob};
 ghost use Rattle.mu_blob_rows.specs.Looks.{server_with};
 ghost use Rattle.mu_blob_rows.specs.declared.table.BlocksLook.{BlocksLook};
-ghost use Rattle.mu_blob_rows.specs.Rows.{ChangeFits, told_by, block_told_by, BlocksLookSo, SessionFits, ReportFits, ChunkLooksSo, chunk_stepped, ChunkStepFits};
+ghost use Rattle.mu_blob_rows.specs.Rows.{ChangeFits, told_by, block_told_by, BlocksLookSo, SessionFits, OpensThis, ReportFits, ChunkLooksSo, chunk_stepped, ChunkStepFits};
 
 use crate::deciding::{
     decide_block_get, decide_block_start, decide_cancel, decide_chunk, decide_start,
@@ -115,6 +115,7 @@ impl<'a> Look<'a> {
     pub fn block_start(self, block: u16, chunk_size: u16, blocks: BlocksLook) -> BlockTold
         ensures known { result.status ≤ 7 }
         ensures report { ReportFits self.entry result.report }
+        ensures opens { OpensThis block result.session }
         ensures session { SessionFits self.entry blocks result.session }
         ensures told { (held chunks : Slots) (to : ℕ) → BlocksLookSo held block blocks → on_blob (server_with self.entry held chunks) to (BlockStart block chunk_size) ≡ block_told_by (server_with self.entry held chunks) to chunks result }
     {
