@@ -1,0 +1,5 @@
+pub mod Places
+pub mod Phased
+pub mod Checks
+pub mod Steps
+pub mod Ids

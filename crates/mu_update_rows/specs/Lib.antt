@@ -1,0 +1,5 @@
+pub mod Looks
+pub mod Messages
+pub mod Fits
+pub mod Rows
+pub mod Decided
