@@ -1,0 +1,4 @@
+use Rattle.mu_place.proofs.records.release_at.Goals as goal
+
+pub returns-in-Err-clause-runs : goal.returns-in-Err-clause-runs
+returns-in-Err-clause-runs g c = rw c.in-Rest.is c.in-Err.ensures.runs
