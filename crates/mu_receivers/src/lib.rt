@@ -1,0 +1,19 @@
+//! The receivers of a client: what it keeps of each, the lists of what is still to be sent to them, and the image that
+//! chunks are read from.
+#![tactic(auto)]
+
+mod each;
+mod image;
+mod lists;
+mod one;
+mod reads;
+mod seen;
+mod slot;
+
+pub use each::{ask_missing, ask_wanted, begin, count, renew, take_back, unwant};
+pub use image::{FaultyImage, ImageBytes, SliceImage};
+pub use lists::{Cursor, Spot, Spots, spots_from};
+pub use one::{answer, drop_by};
+pub use reads::read_chunk;
+pub use seen::{is_any_begun_for, is_any_missing_chunks, is_any_pending, is_in, number};
+pub use slot::{Slot, Was};
