@@ -1,0 +1,4 @@
+//! Runs of typed states that hand their flash on, one after the other.
+#![tactic(auto)]
+
+pub mod laws;
