@@ -29,7 +29,8 @@ pub trait Typed {
     ghost by_flash: { Fault → Type 0 };
 }
 
-/// A run, and then a call that hands on the flash where it ended, are one call that goes through all their states.
+/// A run, and then a call that hands on the flash where it ended, are one call that goes through all their states; and a call is read as one through
+/// other states.
 pub fn typed_runs<R: Typed>()
     ensures { RunLaws R.State R.reading R.seen → TypedRunsJoin R.State R.reading R.seen R.flash_of_value R.flash_of_fault R.kept R.by_flash }
 {}
