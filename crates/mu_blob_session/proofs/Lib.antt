@@ -1,0 +1,3 @@
+pub mod Currents
+pub mod Rows
+pub mod ChunkLooks

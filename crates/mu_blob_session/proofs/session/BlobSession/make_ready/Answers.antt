@@ -1,0 +1,5 @@
+use Rattle.mu_blob_session.specs.Blocks.{current_of}
+use Rattle.mu_blob_session.proofs.session.BlobSession.make_ready.Goals as goal
+
+pub returns-clause-session : goal.returns-clause-session
+returns-clause-session c = c.make_ready.ensures (current_of c.args.self.now.block)

@@ -1,0 +1,5 @@
+pub mod Blocks
+pub mod Sessions
+pub mod Sound
+pub mod Opens
+pub mod Came
