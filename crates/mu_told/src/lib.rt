@@ -1,0 +1,14 @@
+//! What an answer to a client makes of a receiver that hasn't answered its step yet (MshMBT, BLOB Transfer Client; MshDFU,
+//! Firmware Update Client; what drops a receiver is this profile's).
+#![tactic(auto)]
+
+mod blob;
+mod information;
+mod refused;
+mod rows;
+mod update;
+
+pub use blob::{on_block, on_get, on_transfer};
+pub use information::{Limits, on_limits};
+pub use rows::{fold_information, fold_status};
+pub use update::{Shown, on_apply, on_cancel, on_confirm, on_metadata_status, on_start, on_verify};
