@@ -1,0 +1,4 @@
+pub mod Evaluated
+pub mod Worked
+pub mod Plans
+pub mod Tears
