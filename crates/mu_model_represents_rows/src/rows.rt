@@ -1,0 +1,8 @@
+//! Worked rows of a node's records: functions that do nothing, whose contracts are proved.
+
+ghost use Rattle.mu_model_represents_rows.specs.NodeRecords.{NodeRecords};
+
+/// Records that are a node's, at the ends of the ranges of their fields.
+pub fn node_records()
+    ensures { NodeRecords }
+{}
