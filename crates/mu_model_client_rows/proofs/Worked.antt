@@ -20,7 +20,7 @@ rounds_and_chunks = record { round_time = refl; sixteen = refl; early_moment = r
 
 pub pull_and_rest : PullAndRest
 unfolding word_at octets_at opcode_at pattern_at
-pull_and_rest = record { pull_wanted = refl; pull_silence = refl; pull_two = refl; pull_dropped = refl; verifying = refl; applied_later = refl; nobody_verified = refl; nobody_applies = refl; silent_apply = refl; confirmed_before = refl; canceled = refl; canceled_none = refl; all_dropped = refl; dropped_counts = refl }
+pull_and_rest = record { pull_wanted = refl; pull_silence = refl; pull_two = refl; pull_blocks = refl; pull_dropped = refl; verifying = refl; applied_later = refl; nobody_verified = refl; nobody_applies = refl; silent_apply = refl; confirmed_before = refl; canceled = refl; canceled_none = refl; all_dropped = refl; dropped_counts = refl }
 
 pub each_initiator : EachInitiator
 unfolding word_at octets_at opcode_at pattern_at

@@ -2,7 +2,7 @@
 use Rattle.std.specs.Prelude.{[], ◌∷◌, replicate, true, false}
 use Rattle.mu_model_client_rows.specs.Scenes.{Goes, updater}
 use Rattle.mu_model_client_rows.specs.RunsOfPush.{round_time, sixteen, early_moment, grouped, ungrouped, two_blocks, barren}
-use Rattle.mu_model_client_rows.specs.RunsOfRest.{pull_wanted, pull_silence, pull_two, pull_dropped, verifying, applied_later, nobody_verified, nobody_applies, silent_apply, confirmed_before, canceled, canceled_none, all_dropped, dropped_counts}
+use Rattle.mu_model_client_rows.specs.RunsOfRest.{pull_wanted, pull_silence, pull_two, pull_blocks, pull_dropped, verifying, applied_later, nobody_verified, nobody_applies, silent_apply, confirmed_before, canceled, canceled_none, all_dropped, dropped_counts}
 
 pub record RoundsAndChunks : Type 0 where
   pub round_time : Goes (replicate 3 0x61) (updater 1 0 3 200 10 1 true (2 ∷ [])) round_time
@@ -17,6 +17,7 @@ pub record PullAndRest : Type 0 where
   pub pull_wanted : Goes (replicate 136 0x61) (updater 2 0 136 8 5 0 true (2 ∷ [])) pull_wanted
   pub pull_silence : Goes (replicate 136 0x61) (updater 2 0 136 8 5 0 true (2 ∷ [])) pull_silence
   pub pull_two : Goes (replicate 136 0x61) (updater 2 0 136 8 5 0 true (2 ∷ 3 ∷ [])) pull_two
+  pub pull_blocks : Goes (replicate 4104 0x61) (updater 2 0 4104 376 5 0 true (2 ∷ [])) pull_blocks
   pub pull_dropped : Goes (replicate 136 0x61) (updater 2 0 136 8 5 0 true (2 ∷ 3 ∷ [])) pull_dropped
   pub verifying : Goes (replicate 3 0x61) (updater 1 0 3 200 5 0 true (2 ∷ [])) verifying
   pub applied_later : Goes (replicate 3 0x61) (updater 1 0 3 200 5 0 false (2 ∷ [])) applied_later

@@ -1,8 +1,8 @@
 -- Pull, and from the verification on.
-use Rattle.std.specs.Prelude.{List, [], ◌∷◌, Some, None}
+use Rattle.std.specs.Prelude.{List, [], ◌∷◌, ◌++◌, replicate, Some, None}
 use Rattle.mu_model_client.specs.declared.Dropped.TheVariants.{Silent, Status, Phase}
 use Rattle.mu_model_client.specs.declared.Stage.TheVariants.{Transfer as StageTransfer, Verified as StageVerified, Applying as StageApplying, Canceling as StageCanceling, Ended as StageEnded}
-use Rattle.mu_model_client_rows.specs.Scenes.{block_get, update_get, update_apply, update_cancel, information_get, blob_information_get, metadata_status, update_status, no_job_status, limits, check_of, start_of, transfer_of, shown_of, Turn, quiet, sends, Says, Passes, TakesApply, TakesCancel}
+use Rattle.mu_model_client_rows.specs.Scenes.{block_get, update_get, update_apply, update_cancel, information_get, blob_information_get, metadata_status, update_status, no_job_status, limits, check_of, start_of, transfer_of, shown_of, row, Turn, quiet, sends, Says, Passes, TakesApply, TakesCancel}
 
 -- wanted chunks add up, and are sent once, rising; a number past the block is no report
 abbrev pub pull_wanted : List Turn
@@ -85,6 +85,30 @@ pull_two =
     ∷ quiet (Says 8200 3 (0x68 ∷ [])) ((2 ∷ 0 ∷ 0 ∷ 0 ∷ []) ∷ (2 ∷ 0 ∷ 0 ∷ 100 ∷ []) ∷ []) (None ∷ None ∷ []) StageTransfer
     ∷ quiet (Passes 8200) ((2 ∷ 0 ∷ 0 ∷ 0 ∷ []) ∷ (2 ∷ 0 ∷ 0 ∷ 100 ∷ []) ∷ []) (None ∷ None ∷ []) StageTransfer
     ∷ sends (Passes 12300) ((2, block_get) ∷ []) ((2 ∷ 0 ∷ 0 ∷ 0 ∷ []) ∷ (2 ∷ 0 ∷ 0 ∷ 100 ∷ []) ∷ []) (None ∷ None ∷ []) StageTransfer
+    ∷ []
+
+-- after a block in pull the next that is missed
+abbrev pub pull_blocks : List Turn
+pull_blocks =
+    sends (Passes 0) ((2, check_of 4104) ∷ []) ((10 ∷ 0 ∷ 0 ∷ 0 ∷ []) ∷ []) (None ∷ []) StageTransfer
+    ∷ quiet (Says 0 2 (metadata_status 0)) ((10 ∷ 0 ∷ 0 ∷ 0 ∷ []) ∷ []) (None ∷ []) StageTransfer
+    ∷ sends (Passes 0) ((2, start_of 4104) ∷ []) ((10 ∷ 0 ∷ 0 ∷ 0 ∷ []) ∷ []) (None ∷ []) StageTransfer
+    ∷ quiet (Says 0 2 (update_status 0x40 7)) ((2 ∷ 0 ∷ 0 ∷ 0 ∷ []) ∷ []) (None ∷ []) StageTransfer
+    ∷ sends (Passes 0) ((2, blob_information_get) ∷ []) ((2 ∷ 0 ∷ 0 ∷ 0 ∷ []) ∷ []) (None ∷ []) StageTransfer
+    ∷ quiet (Says 0 2 (limits 12 14 2048 376 65535 380 3)) ((2 ∷ 0 ∷ 0 ∷ 0 ∷ []) ∷ []) (None ∷ []) StageTransfer
+    ∷ sends (Passes 0) ((2, transfer_of 0x80 4104) ∷ []) ((2 ∷ 0 ∷ 0 ∷ 0 ∷ []) ∷ []) (None ∷ []) StageTransfer
+    ∷ quiet (Says 0 2 (0x83 ∷ 3 ∷ 0x80 ∷ 2 ∷ 7 ∷ 0 ∷ 0 ∷ 0 ∷ 0 ∷ 0 ∷ 1 ∷ 0 ∷ 8 ∷ 0x10 ∷ 0 ∷ 0 ∷ 0xc ∷ 0x7c ∷ 1 ∷ 3 ∷ [])) ((2 ∷ 0 ∷ 0 ∷ 0 ∷ []) ∷ []) (None ∷ []) StageTransfer
+    ∷ sends (Passes 0) ((2, 0x83 ∷ 4 ∷ 0 ∷ 0 ∷ 0x78 ∷ 1 ∷ []) ∷ []) ((2 ∷ 0 ∷ 0 ∷ 0 ∷ []) ∷ []) (None ∷ []) StageTransfer
+    ∷ quiet (Says 0 2 (0x67 ∷ 0 ∷ 0 ∷ 0 ∷ 0x78 ∷ 1 ∷ [])) ((2 ∷ 0 ∷ 0 ∷ 0 ∷ []) ∷ []) (None ∷ []) StageTransfer
+    ∷ quiet (Passes 0) ((2 ∷ 0 ∷ 0 ∷ 0 ∷ []) ∷ []) (None ∷ []) StageTransfer
+    ∷ quiet (Says 0 2 (0x68 ∷ 0xa ∷ [])) ((2 ∷ 0 ∷ 0 ∷ 0 ∷ []) ∷ []) (None ∷ []) StageTransfer
+    ∷ sends (Passes 0) ((2, 0x66 ∷ 0xa ∷ 0 ∷ replicate 336 0x61) ∷ []) ((2 ∷ 0 ∷ 0 ∷ 0 ∷ []) ∷ []) (None ∷ []) StageTransfer
+    ∷ quiet (Says 0 2 (0x68 ∷ [])) ((2 ∷ 0 ∷ 0 ∷ 50 ∷ []) ∷ []) (None ∷ []) StageTransfer
+    ∷ sends (Passes 0) ((2, 0x83 ∷ 4 ∷ 1 ∷ 0 ∷ 0x78 ∷ 1 ∷ []) ∷ []) ((2 ∷ 0 ∷ 0 ∷ 50 ∷ []) ∷ []) (None ∷ []) StageTransfer
+    ∷ quiet (Says 0 2 (0x67 ∷ 0 ∷ 1 ∷ 0 ∷ 0x78 ∷ 1 ∷ [])) ((2 ∷ 0 ∷ 0 ∷ 50 ∷ []) ∷ []) (None ∷ []) StageTransfer
+    ∷ quiet (Passes 0) ((2 ∷ 0 ∷ 0 ∷ 50 ∷ []) ∷ []) (None ∷ []) StageTransfer
+    ∷ quiet (Says 0 2 (0x68 ∷ [])) ((2 ∷ 0 ∷ 0 ∷ 100 ∷ []) ∷ []) (None ∷ []) StageTransfer
+    ∷ sends (Passes 0) ((2, update_get) ∷ []) ((2 ∷ 0 ∷ 0 ∷ 100 ∷ []) ∷ []) (None ∷ []) StageTransfer
     ∷ []
 
 -- what a dropped one wanted isn't sent
