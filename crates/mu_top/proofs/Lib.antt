@@ -1,3 +1,4 @@
+pub mod HandedOn
 pub mod Told
 pub mod WordLists
 pub mod Cuts

@@ -5,7 +5,7 @@ use Rattle.std.specs.List.{concat}
 use Rattle.std.proofs.Math.Seq.{take-append-add}
 use Rattle.std.specs.Prelude.{IfSome}
 use Rattle.std.specs.Result.{OnOk, OnErr}
-use Rattle.mu_outside.specs.Stream.{WriteTakes}
+use Rattle.mu_outside.specs.Stream.{WriteTakes, KeepsTold}
 use Rattle.mu_top.specs.Reading.{WhereTold, Wrote, WroteSome}
 
 -- before any call
@@ -85,6 +85,11 @@ pub both_sink : (S0 S1 K0 K1 K2 : Option (List ℕ)) (X Y : List ℕ → List �
     → ((held left before after after' : List ℕ) → X held left before after → Q after after' → Y held left before after')
     → Both S0 S1 K0 K1 X → WhereTold K1 K2 Q → Both S0 S1 K0 K2 Y
 both_sink S0 S1 K0 K1 K2 X Y Q f x q = where_told S0 S1 _ _ (λ held left y. told_then K0 K1 K2 (X held left) Q (Y held left) (f held left) y q) x
+
+-- the sink tells the same as before
+pub both_kept : (S0 S1 K0 K1 K2 : Option (List ℕ)) (X : List ℕ → List ℕ → List ℕ → List ℕ → Type 0) → Both S0 S1 K0 K1 X → KeepsTold K1 K2 → Both S0 S1 K0 K2 X
+both_kept S0 S1 K0 K1 None X x same = where_told S0 S1 _ _ (λ held left y. tt) x
+both_kept S0 S1 K0 K1 (Some after) X x same = where_told S0 S1 _ _ (λ held left y. rw same at y) x
 
 -- ---- pieces that are written one after the other
 

@@ -7,7 +7,7 @@ use Rattle.mu_model_script.specs.Pieces.{pieces, line_feed}
 use Rattle.mu_model_script.specs.Limits.{most_octets, most_in_line, lines_in, lines_within, first_lines, Passes}
 use Rattle.mu_model_script.specs.Runs.{Run, Prints, Refuses}
 use Rattle.mu_model_script.specs.Texts.{refused_text}
-use Rattle.mu_top.specs.Ends.{Doing, Barring, Wearing, EndsWith, Ends, Completes, EndsAsItMust, NoneRefused, NoneWears, NoneDone, OrNoMemory, Told, IsWhole, IsRefused, IsWornOut, IsTooLong, IsInPart, IsTraceOfSome, IsBeginning}
+use Rattle.mu_top.specs.Ends.{Doing, Barring, Wearing, EndsWith, Ends, EndsInPart, Completes, EndsAsItMust, NoneRefused, NoneWears, NoneDone, OrNoMemory, Told, IsWhole, IsRefused, IsWornOut, IsTooLong, IsInPart, IsTraceOfSome, IsBeginning}
 use Rattle.mu_top.specs.LineDone.{StopsLine, EndsAt}
 use Rattle.mu_top.specs.Reading.{IsPart, Reader, to_come, WhereTold, IsAtRest, NextLine, GivesLine, Took, Wrote, WroteSome}
 use Rattle.mu_top.specs.declared.reader.Next.{Next}
@@ -284,6 +284,20 @@ module _ {W : Type 0} (Does : Doing W) (Bars : Barring W) (Wears : Wearing W) (s
       → IsBetween S0 S1 K0 K1 old world count → WhereTold S1 S2 (λ before after. (new.ahead ≡ []) × ((part : List ℕ) × IsPart part × (to_come old before ≡ part ++ to_come new after))) → Both S0 S2 K0 K1 (Ended SourceFault)
   source_failed S0 S1 S2 K0 K1 old new world count = both_source S0 S1 S2 K0 K1 (Between old world count) (Ended SourceFault) _ (λ held left left' before after x read.
       (x.0, x.1, at_source held read.1.0 left' old.given count world x.0 (subst (λ r. Working held r old.given world count x.0) (read.1.2 ∙ ap (λ r. read.1.0 ++ r) (left_all new left' read.0)) x.2) read.1.1))
+
+  -- what was written is the trace of the lines that are done, wherever the source stands
+  pub part_done : (S0 S1 S2 K0 K1 : Option (List ℕ)) (P : List ℕ → List ℕ → Type 0) (reader : Reader) (world : W) (count : ℕ) → IsBetween S0 S1 K0 K1 reader world count → WhereTold S1 S2 P
+      → EndsInPart Does start most S0 S2 K0 K1
+  part_done S0 S1 S2 K0 K1 P reader world count = both_source S0 S1 S2 K0 K1 (Between reader world count) (λ held left before after. (written : List ℕ) × (after ≡ before ++ written) × IsTraceOfSome Does start most held written) P (λ held left left' before after x p.
+      (x.0, x.1, some_done held (to_come reader left) reader.given count world x.0 x.2))
+
+  -- the sink failed between two lines
+  pub sink_failed : (S0 S1 K0 K1 : Option (List ℕ)) (reader : Reader) (world : W) (count : ℕ) → IsBetween S0 S1 K0 K1 reader world count → Both S0 S1 K0 K1 (Ended SinkFault)
+  sink_failed S0 S1 K0 K1 reader world count = both_map S0 S1 K0 K1 (Between reader world count) (Ended SinkFault) (λ held left before after x. (
+    x.0,
+    x.1,
+    record { whole = x.0; rest = []; begins = append-nil x.0; trace = inl (some_done held (to_come reader left) reader.given count world x.0 x.2) },
+  ))
 
   -- the limit of octets
   pub octets_passed : (S0 S1 S2 K0 K1 : Option (List ℕ)) (old new : Reader) (world : W) (count : ℕ)

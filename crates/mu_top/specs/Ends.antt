@@ -86,6 +86,11 @@ abbrev pub Ends : {W : Type 0} → Doing W → Barring W → Wearing W → (star
 Ends Does Bars Wears start most source source' sink sink' status =
     WhereTold source source' (λ held left. WhereTold sink sink' (λ before after. (written : List ℕ) × (after ≡ before ++ written) × EndsWith Does Bars Wears start most held left written status))
 
+-- what is written is the trace of some of the first lines, by what a source and a sink tell before and after
+abbrev pub EndsInPart : {W : Type 0} → Doing W → (start : W) (most : ℕ) (source source' sink sink' : Option (List ℕ)) → Type 0
+EndsInPart Does start most source source' sink sink' =
+    WhereTold source source' (λ held left. WhereTold sink sink' (λ before after. (written : List ℕ) × (after ≡ before ++ written) × IsTraceOfSome Does start most held written))
+
 -- ---- completeness
 
 -- in each run, no line is refused

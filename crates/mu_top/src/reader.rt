@@ -104,6 +104,14 @@ impl LineReader {
         self.at < self.end
     }
 
+    /// Whether a whole line is ahead, so that the next one is there without a read.
+    pub(crate) fn has_line(&self) -> bool {
+        match self.piece.get(self.at..self.end) {
+            Some(ahead) => ahead.contains(&b'\n'),
+            None => false,
+        }
+    }
+
     /// The next of the octets ahead.
     fn take(&mut self) -> u8
         requires ahead { 0 < length self.old.ahead }

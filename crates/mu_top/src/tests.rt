@@ -1,5 +1,5 @@
 use crate::{WordList, top};
-use mu_outside::{BytesSink, BytesSource, RamFlash, RamLink, SetClock};
+use mu_outside::{BytesSink, BytesSource, RamFlash, RamLink, SetClock, Source};
 use std::alloc::Global;
 use std::process::Abort;
 use std::test::Fail;
@@ -89,22 +89,6 @@ fn no_words_are_no_command(rt: HostRuntime) -> Result<(), Fail> {
 }
 
 #[test]
-fn each_write_fails_in_turn(rt: HostRuntime) -> Result<(), Fail> {
-    let alloc = rt.alloc();
-    for (call, written) in [(1, 0), (2, 26), (3, 132)] {
-        let mut source = BytesSource::new(alloc, ONE_NODE, &[])?;
-        let mut sink = BytesSink::new(alloc, 65536, &[call])?;
-        assert_eq!(rt;
-            status_of(alloc, &["replay"], &mut source, &mut sink)?,
-            4,
-            "at {call}"
-        );
-        assert_eq!(rt; sink.bytes(), &ONE_NODE_ANSWERS[..written], "at {call}");
-    }
-    Ok(())
-}
-
-#[test]
 fn a_small_sink_takes_what_fits(rt: HostRuntime) -> Result<(), Fail> {
     let alloc = rt.alloc();
     for room in 0..ONE_NODE_ANSWERS.len() {
@@ -130,6 +114,35 @@ fn long_script(alloc: Global) -> Result<Vec<u8>, Fail> {
     }
     script.extend_from_slice(&ONE_NODE[64..])?;
     Ok(script)
+}
+
+#[test]
+fn each_write_fails_in_turn(rt: HostRuntime) -> Result<(), Fail> {
+    let alloc = rt.alloc();
+    let script = long_script(alloc)?;
+    for (call, status, written) in [(1, 4, 0), (2, 4, 132), (3, 0, 213)] {
+        let mut source = BytesSource::new(alloc, &script, &[])?;
+        let mut sink = BytesSink::new(alloc, 65536, &[call])?;
+        assert_eq!(rt;
+            status_of(alloc, &["replay"], &mut source, &mut sink)?,
+            status,
+            "at {call}"
+        );
+        assert_eq!(rt; sink.bytes(), &ONE_NODE_ANSWERS[..written], "at {call}");
+    }
+    Ok(())
+}
+
+#[test]
+fn what_was_printed_is_handed_on_before_the_next_read(rt: HostRuntime) -> Result<(), Fail> {
+    let alloc = rt.alloc();
+    let script = long_script(alloc)?;
+    let mut source = BytesSource::new(alloc, &script, &[])?;
+    let mut sink = BytesSink::new(alloc, 65536, &[1])?;
+    assert_eq!(rt; status_of(alloc, &["replay"], &mut source, &mut sink)?, 4);
+    let mut rest = [0; 9000];
+    assert_eq!(rt; source.read(&mut rest), Ok(script.len() - 8192));
+    Ok(())
 }
 
 #[test]

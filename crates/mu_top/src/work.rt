@@ -1,14 +1,16 @@
 // Doing an input line by line.
 ghost use Rattle.std.specs.Prelude.{◌≡◌, ◌≢◌, ◌≤◌, ◌<◌, ◌+◌, ◌⊎◌, ℕ, List, length, codes, OnOk, IfErr};
-ghost use Rattle.mu_model_flash.specs.Cause.{Rose};
+ghost use Rattle.mu_model_flash.specs.Cause.{HasCause, Rose};
 ghost use Rattle.mu_model_script.specs.Texts.{refused_text};
-ghost use Rattle.mu_top.specs.Ends.{Ends, Told};
+ghost use Rattle.mu_outside.specs.Stream.{KeepsTold};
+ghost use Rattle.mu_top.specs.Ends.{Ends, EndsInPart, Told};
 ghost use Rattle.mu_top.specs.LineDone.{DidLine, StopsLine, EndsAt};
 
 use crate::reader::{LineReader, Next, ReadStop};
 use crate::status::Status;
 use crate::writing::write_refusal;
-use mu_outside::{Sink, Source};
+use mu_outside::{Failed, Gather, Gathered, Lent, Loan, Sink, Source};
+use std::marker::Brand;
 
 /// Why a line wasn't done.
 #[derive(Clone, Copy)]
@@ -88,8 +90,19 @@ fn end_at<K: Sink>(stop: LineStop, sink: &mut K, number: u32) -> Status
     }
 }
 
-/// Does all lines of an input of at most so many lines, each before the next is read.
-pub(crate) fn run<W: LineWork, S: Source, K: Sink>(
+/// Hands on what was printed where the source has to be read for the next line.
+fn hand_on<K: Gather>(reader: &LineReader, sink: &mut K) -> Result<(), Failed>
+    ensures same { KeepsTold (K.written sink.old) (K.written sink.new) }
+    ensures cause { HasCause (K.faults sink.old) (K.faults sink.new) result }
+{
+    if reader.has_line() {
+        return Ok(());
+    }
+    sink.flush()
+}
+
+/// Does all lines of an input, each before the next is read.
+fn run_lines<W: LineWork, S: Source, K: Gather>(
     work: &mut W,
     most_lines: u32,
     source: &mut S,
@@ -98,14 +111,19 @@ pub(crate) fn run<W: LineWork, S: Source, K: Sink>(
     requires most { most_lines ≡ W.most }
     requires begins { W.goes_on work.old 0 }
     ensures ends { Ends W.does W.bars W.wears work.old most_lines (S.left source.old) (S.left source.new) (K.written sink.old) (K.written sink.new) result }
+    ensures part { result ≡ Status.SourceFault → EndsInPart W.does work.old most_lines (S.left source.old) (S.left source.new) (K.written sink.old) (K.written sink.new) }
     ensures source { result ≡ Status.SourceFault → Rose (S.faults source.old) (S.faults source.new) }
     ensures sink { result ≡ Status.SinkFault → Rose (K.faults sink.old) (K.faults sink.new) }
+    ensures later { K.faults sink.old ≤ K.faults sink.new }
     ensures memory { result ≡ Status.NoMemory → (state : W) × W.grows state }
     ensures command { result ≢ Status.Usage }
 {
     let mut reader = LineReader::new();
     let mut count = 0;
     'lines: loop {
+        if hand_on(&reader, sink).is_err() {
+            return Status::SinkFault;
+        }
         if count == most_lines {
             match reader.has_more(source) {
                 Ok(true) => return Status::TooLong,
@@ -131,4 +149,51 @@ pub(crate) fn run<W: LineWork, S: Source, K: Sink>(
             return Status::Done;
         }
     }
+}
+
+/// The same over an output that is lent. What was printed is handed on before it ends.
+fn run_gathered<'k, W: LineWork, S: Source, K: Sink, N: Loan>(
+    work: &mut W,
+    most_lines: u32,
+    source: &mut S,
+    lent: Lent<'k, K>,
+) -> (Lent<'k, K>, Status)
+    requires name { lent.output.ghost_name ≡ N.name }
+    requires start { K.written lent.output.now ≡ N.start }
+    requires most { most_lines ≡ W.most }
+    requires begins { W.goes_on work.old 0 }
+    ensures name { result.0.output.ghost_name ≡ lent.entry.output.ghost_name }
+    ensures ends { Ends W.does W.bars W.wears work.old most_lines (S.left source.old) (S.left source.new) (K.written lent.entry.output.now) (K.written result.0.output.now) result.1 }
+    ensures source { result.1 ≡ Status.SourceFault → Rose (S.faults source.old) (S.faults source.new) }
+    ensures sink { result.1 ≡ Status.SinkFault → Rose (K.faults lent.entry.output.now) (K.faults result.0.output.now) }
+    ensures memory { result.1 ≡ Status.NoMemory → (state : W) × W.grows state }
+    ensures command { result.1 ≢ Status.Usage }
+{
+    let mut gathered: Gathered<'k, K, N> = Gathered::new(lent);
+    let status = run_lines(work, most_lines, source, &mut gathered);
+    match gathered.flush() {
+        Ok(()) => (gathered.back(), status),
+        Err(_) => (gathered.back(), Status::SinkFault),
+    }
+}
+
+/// Does all lines of an input of at most so many lines, each before the next is read. What they print is handed on in large pieces,
+/// before the source is read again and before it ends.
+pub(crate) fn run<W: LineWork, S: Source, K: Sink>(
+    work: &mut W,
+    most_lines: u32,
+    source: &mut S,
+    sink: &mut K,
+) -> Status
+    requires most { most_lines ≡ W.most }
+    requires begins { W.goes_on work.old 0 }
+    ensures ends { Ends W.does W.bars W.wears work.old most_lines (S.left source.old) (S.left source.new) (K.written sink.old) (K.written sink.new) result }
+    ensures source { result ≡ Status.SourceFault → Rose (S.faults source.old) (S.faults source.new) }
+    ensures sink { result ≡ Status.SinkFault → Rose (K.faults sink.old) (K.faults sink.new) }
+    ensures memory { result ≡ Status.NoMemory → (state : W) × W.grows state }
+    ensures command { result ≢ Status.Usage }
+{
+    let lent = Lent::new(sink);
+    let done = run_gathered::<W, S, K, Brand>(work, most_lines, source, lent);
+    done.1
 }

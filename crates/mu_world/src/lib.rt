@@ -1,8 +1,10 @@
 //! The world of a script: its members, all that was sent, what has happened, and what each line prints.
 #![tactic(auto)]
 
+mod bag;
 mod content;
 mod fault;
+mod head;
 mod lines;
 mod log;
 mod member;

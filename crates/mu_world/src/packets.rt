@@ -1,6 +1,5 @@
 // Packets of the bag.
-ghost use Rattle.std.specs.Prelude.{◌≡◌, ◌/◌, ◌^◌, slice_get};
-ghost use Rattle.std.specs.Option.{option_copied};
+ghost use Rattle.std.specs.Prelude.{◌≡◌, ◌/◌, ◌^◌};
 ghost use Rattle.mu_codec.specs.View.{packet_of};
 ghost use Rattle.mu_model_node.specs.NodeMessages.{request_at};
 ghost use Rattle.mu_model_node.specs.NodeState.{is_addressee};
@@ -10,13 +9,6 @@ use mu_access::{Message, read};
 use mu_codec::{Packet, Payload, put_octets};
 use mu_model_node::NodeConfig;
 use mu_updmsg::UpdMsg;
-
-/// The packet of that number, if there is one.
-pub(crate) fn packet_at(bag: &[Packet], number: u32) -> Option<&Packet>
-    ensures { option_copied result ≡ slice_get bag.now number }
-{
-    bag.get(number as usize)
-}
 
 /// Whether a packet is addressed to a node, by its address or its group.
 pub(crate) fn is_addressee(config: &NodeConfig, packet: &Packet) -> bool

@@ -10,13 +10,14 @@ ghost use Rattle.mu_model_world.specs.Outcomes.{content_octets, sent_texts};
 ghost use Rattle.mu_script.specs.View.{content, event};
 ghost use Rattle.mu_world.specs.Moved.{Did, Fails};
 
+use crate::bag::Bag;
 use crate::content::{First, fits, image_copy, image_octets};
 use crate::fault::{WorldFault, bad};
 use crate::lines::Lines;
 use crate::log::LogEntry;
 use crate::member::{Boot, Came, Member, Tear};
 use crate::members::{arm, cut, hand};
-use crate::packets::{copy_of, is_addressee, offered, owner_of, packet_at};
+use crate::packets::{copy_of, is_addressee, offered, owner_of};
 use crate::shown::{print_active, print_unread};
 use indexmap::IndexMap;
 use mu_codec::{Outbox, Packet, Payload};
@@ -35,7 +36,7 @@ const MOST_MEMBERS: usize = 32;
 pub(crate) struct State {
     alloc: Global,
     members: IndexMap<u16, Member>,
-    pub(crate) bag: Vec<Packet>,
+    pub(crate) bag: Bag,
     pub(crate) log: Vec<LogEntry>,
     pub(crate) events: u32,
     begun: bool,
@@ -43,7 +44,6 @@ pub(crate) struct State {
 
 impl Model for State {
     ghost use Rattle.std.specs.Prelude.{map};
-    ghost use Rattle.mu_codec.specs.View.{packet_of};
     ghost use Rattle.mu_model_world.specs.World.{World as Seen};
     ghost use Rattle.mu_world.specs.View.{entry_of};
 
@@ -51,7 +51,7 @@ impl Model for State {
 
     ghost view = { λ w. record {
       members = w.members.entries;
-      bag = map packet_of w.bag.items;
+      bag = w.bag;
       log = map entry_of w.log.items;
       events = w.events;
       begun = w.begun;
@@ -72,7 +72,7 @@ impl State {
         State {
             alloc,
             members: IndexMap::new(alloc),
-            bag: Vec::new(alloc),
+            bag: Bag::new(alloc),
             log: Vec::new(alloc),
             events: 0,
             begun: false,
@@ -91,27 +91,26 @@ impl State {
     }
 
     /// Puts a packet into the bag, and prints its line.
-    fn send(&mut self, packet: Packet, lines: &mut Lines) -> Result<(), WorldFault>
-        ensures bag { OnOk result (self.new ≡ with_packets self.old (packet_of packet ∷ [])) }
-        ensures printed { OnOk result (lines.new ≡ lines.old ++ sent_texts (length self.old.bag) (packet_of packet ∷ [])) }
+    fn send(&mut self, packet: &Packet, lines: &mut Lines) -> Result<(), WorldFault>
+        ensures bag { OnOk result (self.new ≡ with_packets self.old (packet_of packet.now ∷ [])) }
+        ensures printed { OnOk result (lines.new ≡ lines.old ++ sent_texts (length self.old.bag) (packet_of packet.now ∷ [])) }
         ensures err { IfErr result (λ fault. fault ≡ WorldFault.Memory) }
     {
         let Ok(number) = u32::try_from(self.bag.len()) else {
             return Err(WorldFault::Memory);
         };
-        lines.sent(number, &packet)?;
+        lines.sent(number, packet)?;
         self.bag.push(packet)?;
         Ok(())
     }
 
     /// Puts packets into the bag, and prints their lines.
-    fn send_all(&mut self, mut packets: Outbox, lines: &mut Lines) -> Result<(), WorldFault>
-        ensures bag { OnOk result (self.new ≡ with_packets self.old (map packet_of packets.items)) }
-        ensures printed { OnOk result (lines.new ≡ lines.old ++ sent_texts (length self.old.bag) (map packet_of packets.items)) }
+    fn send_all(&mut self, packets: &[Packet], lines: &mut Lines) -> Result<(), WorldFault>
+        ensures bag { OnOk result (self.new ≡ with_packets self.old (map packet_of packets.now)) }
+        ensures printed { OnOk result (lines.new ≡ lines.old ++ sent_texts (length self.old.bag) (map packet_of packets.now)) }
         ensures err { IfErr result (λ fault. fault ≡ WorldFault.Memory) }
     {
-        while !packets.is_empty() {
-            let packet = packets.remove(0);
+        for packet in packets {
             self.send(packet, lines)?;
         }
         Ok(())
@@ -130,13 +129,12 @@ impl State {
     }
 
     /// Logs what happened at the node of an address, in order.
-    fn enter_all(&mut self, address: u16, mut entries: Entries) -> Result<(), WorldFault>
-        ensures ok { OnOk result (self.new ≡ with_entries self.old address (map what_of entries.items)) }
+    fn enter_all(&mut self, address: u16, entries: &[What]) -> Result<(), WorldFault>
+        ensures ok { OnOk result (self.new ≡ with_entries self.old address (map what_of entries.now)) }
         ensures err { IfErr result (λ fault. fault ≡ WorldFault.Memory) }
     {
-        while !entries.is_empty() {
-            let what = entries.remove(0);
-            self.enter(address, what)?;
+        for what in entries {
+            self.enter(address, *what)?;
         }
         Ok(())
     }
@@ -285,38 +283,44 @@ impl State {
             to,
             payload: copy_of(payload),
         };
-        self.send(packet, lines)
+        self.send(&packet, lines)
     }
 
     /// What came of an event at the node of an address is logged and printed.
     fn ran(
         &mut self,
         address: u16,
-        entries: Entries,
-        packets: Outbox,
+        entries: &Entries,
+        packets: &Outbox,
         lines: &mut Lines,
     ) -> Result<(), WorldFault>
-        ensures world { OnOk result (self.new ≡ with_packets (with_entries self.old address (map what_of entries.items)) (map packet_of packets.items)) }
-        ensures printed { OnOk result (lines.new ≡ lines.old ++ sent_texts (length self.old.bag) (map packet_of packets.items)) }
+        ensures world { OnOk result (self.new ≡ with_packets (with_entries self.old address (map what_of entries.now.items)) (map packet_of packets.now.items)) }
+        ensures printed { OnOk result (lines.new ≡ lines.old ++ sent_texts (length self.old.bag) (map packet_of packets.now.items)) }
         ensures err { IfErr result (λ fault. fault ≡ WorldFault.Memory) }
     {
-        self.enter_all(address, entries)?;
-        self.send_all(packets, lines)
+        self.enter_all(address, entries.as_slice())?;
+        self.send_all(packets.as_slice(), lines)
     }
 
     /// A boot of the node of an address is logged and printed.
-    fn booted(&mut self, address: u16, boot: Boot, lines: &mut Lines) -> Result<(), WorldFault>
-        ensures world { OnOk result (self.new ≡ with_entries self.old address (map what_of boot.entries.items)) }
-        ensures printed { OnOk result (lines.new ≡ lines.old ++ boot_text address boot.count boot.held) }
+    fn booted(&mut self, address: u16, boot: &Boot, lines: &mut Lines) -> Result<(), WorldFault>
+        ensures world { OnOk result (self.new ≡ with_entries self.old address (map what_of boot.now.entries.items)) }
+        ensures printed { OnOk result (lines.new ≡ lines.old ++ boot_text address boot.now.count boot.now.held) }
         ensures err { IfErr result (λ fault. fault ≡ WorldFault.Memory) }
     {
-        self.enter_all(address, boot.entries)?;
+        self.enter_all(address, boot.entries.as_slice())?;
         lines.boot(address, boot.count, boot.held)?;
         Ok(())
     }
 
-    /// A packet of the bag comes to a member.
-    fn deliver(&mut self, number: u32, address: u16, lines: &mut Lines) -> Result<(), WorldFault>
+    /// A packet of the bag comes to a member. What it sends stands in `out` meanwhile, in place of what stood there.
+    fn deliver(
+        &mut self,
+        number: u32,
+        address: u16,
+        out: &mut Outbox,
+        lines: &mut Lines,
+    ) -> Result<(), WorldFault>
         requires few { self.old.events < most_events }
         ensures ok { OnOk result (Did self.old (DeliverLine number address) lines.old lines.new self.new) }
         ensures err { IfErr result (Fails self.old (DeliverLine number address) lines.old lines.new self.new) }
@@ -326,51 +330,57 @@ impl State {
         };
         let moment = member.moment();
         let config = member.config(address);
-        let Some(packet) = packet_at(&self.bag, number) else {
+        let Some(packet) = self.bag.get(number) else {
             return Err(bad(1, BadWhy::Packet));
         };
-        if !is_addressee(&config, packet) {
+        if !is_addressee(&config, &packet) {
             return Err(bad(2, BadWhy::Packet));
         }
-        let mut out = Outbox::new();
+        out.clear();
         let came = hand(
             self.alloc,
             &mut self.members,
             address,
-            NodeEvent::Packet(packet),
+            NodeEvent::Packet(&packet),
             moment,
-            &mut out,
+            out,
         )?;
         self.begin();
         match came {
             Came::Whole { handled, entries } => {
                 print_unread(handled, number, address, lines)?;
-                self.ran(address, entries, out, lines)
+                self.ran(address, &entries, out, lines)
             }
-            Came::Torn(boot) => self.booted(address, boot, lines),
+            Came::Torn(boot) => self.booted(address, &boot, lines),
         }
     }
 
-    /// Time comes to a member.
-    fn time(&mut self, address: u16, ms: u64, lines: &mut Lines) -> Result<(), WorldFault>
+    /// Time comes to a member. What it sends stands in `out` meanwhile, in place of what stood there.
+    fn time(
+        &mut self,
+        address: u16,
+        ms: u64,
+        out: &mut Outbox,
+        lines: &mut Lines,
+    ) -> Result<(), WorldFault>
         requires few { self.old.events < most_events }
         ensures ok { OnOk result (Did self.old (TimeLine address ms) lines.old lines.new self.new) }
         ensures err { IfErr result (Fails self.old (TimeLine address ms) lines.old lines.new self.new) }
     {
         let moment = self.member(1, address)?.moment().max(ms);
-        let mut out = Outbox::new();
+        out.clear();
         let came = hand(
             self.alloc,
             &mut self.members,
             address,
             NodeEvent::Time,
             moment,
-            &mut out,
+            out,
         )?;
         self.begin();
         match came {
-            Came::Whole { entries, .. } => self.ran(address, entries, out, lines),
-            Came::Torn(boot) => self.booted(address, boot, lines),
+            Came::Whole { entries, .. } => self.ran(address, &entries, out, lines),
+            Came::Torn(boot) => self.booted(address, &boot, lines),
         }
     }
 
@@ -384,7 +394,7 @@ impl State {
     {
         let boot = cut(&mut self.members, address)?;
         self.begin();
-        self.booted(address, boot, lines)
+        self.booted(address, &boot, lines)
     }
 
     /// The power of a member is to go in an event.
@@ -424,8 +434,13 @@ impl State {
         Ok(())
     }
 
-    /// Does one event, and prints what it prints. At want of memory it may be half done.
-    pub(crate) fn line(&mut self, happening: &Event, lines: &mut Lines) -> Result<(), WorldFault>
+    /// Does one event, and prints what it prints. At want of memory it may be half done. One outbox serves every event.
+    pub(crate) fn line(
+        &mut self,
+        happening: &Event,
+        out: &mut Outbox,
+        lines: &mut Lines,
+    ) -> Result<(), WorldFault>
         requires few { self.old.events < most_events }
         requires in_range { IsInRange (event happening.now) }
         ensures ok { OnOk result (Did self.old (event happening.now) lines.old lines.new self.new) }
@@ -466,8 +481,8 @@ impl State {
                 lines,
             ),
             Event::Say { from, to, payload } => self.say(*from, *to, payload, lines),
-            Event::Deliver { packet, addr } => self.deliver(*packet, *addr, lines),
-            Event::Time { addr, ms } => self.time(*addr, *ms, lines),
+            Event::Deliver { packet, addr } => self.deliver(*packet, *addr, out, lines),
+            Event::Time { addr, ms } => self.time(*addr, *ms, out, lines),
             Event::Cut { addr } => self.cut(*addr, lines),
             Event::Tear { addr, n, pattern } => {
                 let tear = Tear {

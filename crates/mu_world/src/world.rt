@@ -9,9 +9,8 @@ ghost use Rattle.mu_world.specs.View.{entry_of};
 use crate::fault::WorldFault;
 use crate::lines::Lines;
 use crate::log::LogEntry;
-use crate::packets::copy_of;
 use crate::state::State;
-use mu_codec::Packet;
+use mu_codec::{Outbox, Packet};
 use mu_script::Event;
 use std::alloc::{AllocError, Global};
 use std::marker::Model;
@@ -26,6 +25,8 @@ const MOST_EVENTS: u32 = 100_000;
 pub struct World {
     state: State,
     fault: Option<WorldFault>,
+    /// What an event makes a member send stands here until it is put into the bag.
+    out: Outbox,
 }
 
 impl Model for World {
@@ -44,6 +45,7 @@ impl World {
         Ok(World {
             state: State::new(alloc),
             fault: None,
+            out: Outbox::new(),
         })
     }
 
@@ -63,7 +65,7 @@ impl World {
         if self.state.events >= MOST_EVENTS {
             return Err(WorldFault::TooLong);
         }
-        match self.state.line(happening, lines) {
+        match self.state.line(happening, &mut self.out, lines) {
             Ok(()) => Ok(()),
             Err(fault) => {
                 self.keep(fault);
@@ -104,11 +106,6 @@ impl World {
         requires { k < length self.now.world.bag }
         ensures { slice_get self.now.world.bag k ≡ Some (packet_of result) }
     {
-        let packet = &self.state.bag[k as usize];
-        Packet {
-            from: packet.from,
-            to: packet.to,
-            payload: copy_of(&packet.payload),
-        }
+        self.state.bag.at(k as usize)
     }
 }

@@ -18,7 +18,7 @@ returns-clause-ok c =
     let boot = c.in_ok-boot.boot in
     let entries = map what_of boot.entries.items in
     let inside = c.self.inside in
-    let seen : List (ℕ × Member) → World = λ ms. record { members = ms; bag = map packet_of inside.bag.items; log = map entry_of inside.log.items; events = inside.events; begun = inside.begun } in
+    let seen : List (ℕ × Member) → World = λ ms. record { members = ms; bag = inside.bag; log = map entry_of inside.log.items; events = inside.events; begun = inside.begun } in
     on_ok_both c.booted.result _ _ _ (λ world printed.
     did_cut c.args.self.now c.args.address old cut.new boot c.args.lines.now _ _ found cut.cut cut.of
     (world

@@ -1,7 +1,5 @@
 use Rattle.std.proofs.Common.{◌≡◌, ◌++◌, List, ℕ, nat_eq, length, cond, [], map, true, ap, sym, ◌∙◌, slice_get, subst}
 use Rattle.std.specs.Map.{lookup, set_value}
-use Rattle.std.proofs.lemmas.Option.{slice_get-map}
-use Rattle.std.specs.Option.{option_map}
 use Rattle.mu_model_node.specs.Events.{PacketComes}
 use Rattle.mu_model_node.specs.NodeState.{is_addressee}
 use Rattle.mu_model_script.specs.Texts.{unread_text}
@@ -19,15 +17,15 @@ pub returns-in_ok-print_unread-in-Whole-clause-ok : goal.returns-in_ok-print_unr
 returns-in_ok-print_unread-in-Whole-clause-ok c =
     let w = c.args.self.now in
     let old = c.in-Some.member.now in
-    let p = packet_of c.in-Some-packet_at.packet.now in
+    let p = packet_of c.in-Some-get.packet in
     let at = sym c.in-Some.ensures.value in
     let found = sym (ap (λ (w : World). lookup (nat_eq c.args.address) w.members) c.self.view_is) ∙ at in
-    let in_bag = sym (ap (λ (w : World). slice_get w.bag c.args.number) c.self.view_is) ∙ (slice_get-map packet_of c.self.inside.bag.items c.args.number ∙ ap (λ xs. option_map packet_of (slice_get xs c.args.number)) (sym c.deref.ensures.value) ∙ ap (option_map packet_of) (sym c.in-Some-packet_at.ensures)) in
+    let in_bag = sym (ap (λ (w : World). slice_get w.bag c.args.number) c.self.view_is) ∙ sym c.in-Some-get.ensures in
     let addressed : is_addressee (config_of c.args.address old) p ≡ true = ap (λ k. is_addressee k p) (sym c.config-config.ensures) ∙ (sym c.is_addressee.ensures ∙ c.if-not-is_addressee.false) in
     let handed = if_some_at _ old _ at c.in_ok-came.ensures.ok in
     let sent = map packet_of c.hand.new.out.items in
     let inside = c.self.inside in
-    let seen : List (ℕ × Member) → World = λ ms. record { members = ms; bag = map packet_of inside.bag.items; log = map entry_of inside.log.items; events = inside.events; begun = inside.begun } in
+    let seen : List (ℕ × Member) → World = λ ms. record { members = ms; bag = inside.bag; log = map entry_of inside.log.items; events = inside.events; begun = inside.begun } in
     let handled = c.in-Whole.handled in
     let entries = map what_of c.in-Whole.entries.items in
     let came = subst (λ x. CameOf c.args.address old handed.new (PacketComes p) c.moment-moment.result sent x) c.in-Whole.is handed.of in
@@ -41,7 +39,7 @@ returns-in_ok-print_unread-in-Whole-clause-ok c =
     ∙ ap (λ (w : World). with_packets (record (begun w) { members = set_value (nat_eq c.args.address) w.members handed.new; log = w.log ++ logged_at c.args.address entries }) sent) c.self.view_is)))
     (printed
     ∙ (ap (λ (s : World). c.print_unread.new.lines ++ sent_texts (length s.bag) sent) c.begin.ensures
-    ∙ (ap (λ (t : List ℕ). t ++ sent_texts (length (map packet_of inside.bag.items)) sent) c.in_ok-print_unread-in-Whole.ensures
+    ∙ (ap (λ (t : List ℕ). t ++ sent_texts (length inside.bag) sent) c.in_ok-print_unread-in-Whole.ensures
     ∙ ap (λ (w : World). (c.args.lines.now ++ unread) ++ sent_texts (length w.bag) sent) c.self.view_is))))
     c.ran.ensures.world c.ran.ensures.printed
 
@@ -49,15 +47,15 @@ pub returns-in-Torn-clause-ok : goal.returns-in-Torn-clause-ok
 returns-in-Torn-clause-ok c =
     let w = c.args.self.now in
     let old = c.in-Some.member.now in
-    let p = packet_of c.in-Some-packet_at.packet.now in
+    let p = packet_of c.in-Some-get.packet in
     let at = sym c.in-Some.ensures.value in
     let found = sym (ap (λ (w : World). lookup (nat_eq c.args.address) w.members) c.self.view_is) ∙ at in
-    let in_bag = sym (ap (λ (w : World). slice_get w.bag c.args.number) c.self.view_is) ∙ (slice_get-map packet_of c.self.inside.bag.items c.args.number ∙ ap (λ xs. option_map packet_of (slice_get xs c.args.number)) (sym c.deref.ensures.value) ∙ ap (option_map packet_of) (sym c.in-Some-packet_at.ensures)) in
+    let in_bag = sym (ap (λ (w : World). slice_get w.bag c.args.number) c.self.view_is) ∙ sym c.in-Some-get.ensures in
     let addressed : is_addressee (config_of c.args.address old) p ≡ true = ap (λ k. is_addressee k p) (sym c.config-config.ensures) ∙ (sym c.is_addressee.ensures ∙ c.if-not-is_addressee.false) in
     let handed = if_some_at _ old _ at c.in_ok-came.ensures.ok in
     let sent = map packet_of c.hand.new.out.items in
     let inside = c.self.inside in
-    let seen : List (ℕ × Member) → World = λ ms. record { members = ms; bag = map packet_of inside.bag.items; log = map entry_of inside.log.items; events = inside.events; begun = inside.begun } in
+    let seen : List (ℕ × Member) → World = λ ms. record { members = ms; bag = inside.bag; log = map entry_of inside.log.items; events = inside.events; begun = inside.begun } in
     let boot = c.in-Torn.boot in
     let entries = map what_of boot.entries.items in
     let came = subst (λ x. CameOf c.args.address old handed.new (PacketComes p) c.moment-moment.result sent x) c.in-Torn.is handed.of in

@@ -14,7 +14,7 @@ returns-clause-ok c =
     let found = sym (ap (λ (w : World). lookup (nat_eq c.args.address) w.members) c.self.view_is) ∙ here.is in
     let armed = if_some_at _ old _ here.is c.in_ok-arm.ensures.ok in
     let inside = c.self.inside in
-    let seen : List (ℕ × Member) → World = λ ms. record { members = ms; bag = map packet_of inside.bag.items; log = map entry_of inside.log.items; events = inside.events; begun = inside.begun } in
+    let seen : List (ℕ × Member) → World = λ ms. record { members = ms; bag = inside.bag; log = map entry_of inside.log.items; events = inside.events; begun = inside.begun } in
     did_tear c.args.self.now c.args.address c.args.tear.operation c.args.tear.pattern old c.args.lines.now _ found
     (c.begin.ensures
     ∙ (ap (λ ms. begun (seen ms)) armed

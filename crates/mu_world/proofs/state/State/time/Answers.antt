@@ -21,7 +21,7 @@ returns-in-Whole-clause-ok c =
     let handed = if_some_at _ old _ at c.in_ok-came.ensures.ok in
     let sent = map packet_of c.hand.new.out.items in
     let inside = c.self.inside in
-    let seen : List (ℕ × Member) → World = λ ms. record { members = ms; bag = map packet_of inside.bag.items; log = map entry_of inside.log.items; events = inside.events; begun = inside.begun } in
+    let seen : List (ℕ × Member) → World = λ ms. record { members = ms; bag = inside.bag; log = map entry_of inside.log.items; events = inside.events; begun = inside.begun } in
     let handled = c.in-Whole.handled in
     let entries = map what_of c.in-Whole.entries.items in
     let ran = subst (λ x. CameOf c.args.address old handed.new TimeComes c.max-moment.result sent x) c.in-Whole.is handed.of in
@@ -46,7 +46,7 @@ returns-in-Torn-clause-ok c =
     let handed = if_some_at _ old _ at c.in_ok-came.ensures.ok in
     let sent = map packet_of c.hand.new.out.items in
     let inside = c.self.inside in
-    let seen : List (ℕ × Member) → World = λ ms. record { members = ms; bag = map packet_of inside.bag.items; log = map entry_of inside.log.items; events = inside.events; begun = inside.begun } in
+    let seen : List (ℕ × Member) → World = λ ms. record { members = ms; bag = inside.bag; log = map entry_of inside.log.items; events = inside.events; begun = inside.begun } in
     let boot = c.in-Torn.boot in
     let entries = map what_of boot.entries.items in
     let torn = subst (λ x. CameOf c.args.address old handed.new TimeComes c.max-moment.result sent x) c.in-Torn.is handed.of in
