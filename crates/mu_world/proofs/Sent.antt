@@ -30,14 +30,14 @@ drop_past (x ∷ xs) (suc i) past = drop_past xs i (omega (arith, past))
 one_more : (w : World) (p : Packet) (ps : List Packet) → with_packets (with_packets w (p ∷ [])) ps ≡ with_packets w (p ∷ ps)
 one_more w p ps = ap (λ bag. record w { bag = bag }) (append_assoc w.bag (p ∷ []) ps)
 
-pub bag_next : (w new : World) (packets : List HeldPacket) (i : ℕ) (d : HeldPacket) → i < length packets → new ≡ with_packets w (packet_of (slice_index_or packets i d) ∷ [])
+bag_next : (w new : World) (packets : List HeldPacket) (i : ℕ) (d : HeldPacket) → i < length packets → new ≡ with_packets w (packet_of (slice_index_or packets i d) ∷ [])
     → with_packets new (map packet_of (drop (i + 1) packets)) ≡ with_packets w (map packet_of (drop i packets))
 bag_next w new packets i d lt is =
     ap (λ (v : World). with_packets v (map packet_of (drop (i + 1) packets))) is
     ∙ one_more w (packet_of (slice_index_or packets i d)) (map packet_of (drop (i + 1) packets))
     ∙ ap (λ ps. with_packets w (map packet_of ps)) (sym (drop_next packets i d lt))
 
-pub text_next : (w new : World) (lines lines' : List ℕ) (packets : List HeldPacket) (i : ℕ) (d : HeldPacket) → i < length packets → new ≡ with_packets w (packet_of (slice_index_or packets i d) ∷ [])
+text_next : (w new : World) (lines lines' : List ℕ) (packets : List HeldPacket) (i : ℕ) (d : HeldPacket) → i < length packets → new ≡ with_packets w (packet_of (slice_index_or packets i d) ∷ [])
     → lines' ≡ lines ++ sent_texts (length w.bag) (packet_of (slice_index_or packets i d) ∷ [])
     → lines' ++ sent_texts (length new.bag) (map packet_of (drop (i + 1) packets)) ≡ lines ++ sent_texts (length w.bag) (map packet_of (drop i packets))
 text_next w new lines lines' packets i d lt is printed =
@@ -49,6 +49,17 @@ text_next w new lines lines' packets i d lt is printed =
     ∙ (ap (λ (t : List ℕ). t ++ sent_texts (length w.bag + 1) rest) (printed ∙ ap (λ (t : List ℕ). lines ++ t) one)
     ∙ (append_assoc lines (sent_text (length w.bag) p.from p.to p.payload) (sent_texts (length w.bag + 1) rest)
     ∙ ap (λ ps. lines ++ sent_texts (length w.bag) (map packet_of ps)) (sym (drop_next packets i d lt))))
+
+-- the same of what stands there, by another name
+pub bag_on : (w new : World) (packets : List HeldPacket) (i : ℕ) (d p : HeldPacket) → p ≡ slice_index_or packets i d → i < length packets → new ≡ with_packets w (packet_of p ∷ [])
+    → with_packets new (map packet_of (drop (i + 1) packets)) ≡ with_packets w (map packet_of (drop i packets))
+bag_on w new packets i d p item lt is = bag_next w new packets i d lt (is ∙ ap (λ q. with_packets w (packet_of q ∷ [])) item)
+
+pub text_on : (w new : World) (lines lines' : List ℕ) (packets : List HeldPacket) (i : ℕ) (d p : HeldPacket) → p ≡ slice_index_or packets i d → i < length packets → new ≡ with_packets w (packet_of p ∷ [])
+    → lines' ≡ lines ++ sent_texts (length w.bag) (packet_of p ∷ [])
+    → lines' ++ sent_texts (length new.bag) (map packet_of (drop (i + 1) packets)) ≡ lines ++ sent_texts (length w.bag) (map packet_of (drop i packets))
+text_on w new lines lines' packets i d p item lt is printed =
+    text_next w new lines lines' packets i d lt (is ∙ ap (λ q. with_packets w (packet_of q ∷ [])) item) (printed ∙ ap (λ q. lines ++ sent_texts (length w.bag) (packet_of q ∷ [])) item)
 
 pub bag_done : (w : World) (packets : List HeldPacket) (i : ℕ) → length packets ≤ i → with_packets w (map packet_of (drop i packets)) ≡ w
 bag_done w packets i past =

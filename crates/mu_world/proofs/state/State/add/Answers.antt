@@ -1,7 +1,6 @@
 use Rattle.std.proofs.Common.{List, ℕ, ◌+◌, nat_eq, map, ap, ◌∙◌}
 use Rattle.std.specs.Map.{lookup}
 use Rattle.indexmap.proofs.CallerLemmas.{insert_entry-new}
-use Rattle.mu_codec.specs.View.{packet_of}
 use Rattle.mu_model_world.specs.World.{World, Member}
 use Rattle.mu_model_world.specs.Outcomes.{with_member, counted}
 use Rattle.mu_world.specs.View.{entry_of}

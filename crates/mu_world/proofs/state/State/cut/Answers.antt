@@ -1,6 +1,5 @@
 use Rattle.std.proofs.Common.{◌++◌, List, ℕ, nat_eq, map, ap, sym, ◌∙◌}
 use Rattle.std.specs.Map.{lookup, set_value}
-use Rattle.mu_codec.specs.View.{packet_of}
 use Rattle.mu_model_world.specs.World.{World, Member, logged_at}
 use Rattle.mu_model_world.specs.Outcomes.{begun}
 use Rattle.mu_reference_node.specs.Logging.{what_of}

@@ -1,6 +1,5 @@
 use Rattle.std.proofs.Common.{List, ℕ, nat_eq, map, Some, ap, sym, ◌∙◌}
 use Rattle.std.specs.Map.{lookup}
-use Rattle.mu_codec.specs.View.{packet_of}
 use Rattle.mu_model_world.specs.World.{World, Member}
 use Rattle.mu_model_world.specs.Outcomes.{begun, with_changed}
 use Rattle.mu_world.specs.View.{entry_of, tear_of}
