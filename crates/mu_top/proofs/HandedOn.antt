@@ -16,6 +16,11 @@ behind_none : (below : Option (List ℕ)) (held : List ℕ) → held ≡ [] → 
 behind_none None held none = refl
 behind_none (Some octets) held none = ap (λ (l : List ℕ). Some (octets ++ l)) none ∙ ap (λ (l : List ℕ). Some l) (append-nil octets)
 
+-- nothing was written meanwhile
+keeps_same : (o : Option (List ℕ)) → KeepsTold o o
+keeps_same None = tt
+keeps_same (Some octets) = refl
+
 -- all was handed on
 pub flushed : (S0 S1 start below below' : Option (List ℕ)) (none held held' : List ℕ) (X : List ℕ → List ℕ → List ℕ → List ℕ → Type 0)
     → none ≡ [] → held' ≡ [] → Both S0 S1 (behind start none) (behind below held) X → KeepsTold (behind below held) (behind below' held') → Both S0 S1 start below' X
@@ -92,3 +97,9 @@ module _ {W : Type 0} (Does : Doing W) (Bars : Barring W) (Wears : Wearing W) (s
       let whole = both_kept S0 S1 (behind K0 none) (behind below gathered) (behind below' gathered') Begun (begun S0 S1 (behind K0 none) (behind below gathered) status ends part) same in
       let here = subst (λ o. Both S0 S1 o (behind below' gathered') Begun) (behind_none K0 none is) whole in
       where_told S0 S1 _ _ (λ held left x. below_begun held left K0 below' gathered' grows x) here
+
+  -- the output below has failed before
+  pub cut_before : (S0 S1 K0 below : Option (List ℕ)) (none gathered : List ℕ) → none ≡ [] → GoesOn K0 below
+      → Ends Does Bars Wears start most S0 S1 (behind K0 none) (behind below gathered) SinkFault → Ends Does Bars Wears start most S0 S1 K0 below SinkFault
+  cut_before S0 S1 K0 below none gathered is grows ends =
+      cut_off S0 S1 K0 below below none gathered gathered SinkFault is grows ends (λ no. absurd cc) (keeps_same (behind below gathered))

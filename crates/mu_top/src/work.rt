@@ -151,7 +151,7 @@ fn run_lines<W: LineWork, S: Source, K: Gather>(
     }
 }
 
-/// The same over an output that is lent. What was printed is handed on before it ends.
+/// The same over an output that is lent. What was printed is handed on before it ends, but for an output that has failed.
 fn run_gathered<'k, W: LineWork, S: Source, K: Sink, N: Loan>(
     work: &mut W,
     most_lines: u32,
@@ -171,6 +171,9 @@ fn run_gathered<'k, W: LineWork, S: Source, K: Sink, N: Loan>(
 {
     let mut gathered: Gathered<'k, K, N> = Gathered::new(lent);
     let status = run_lines(work, most_lines, source, &mut gathered);
+    if let Status::SinkFault = status {
+        return (gathered.back(), status);
+    }
     match gathered.flush() {
         Ok(()) => (gathered.back(), status),
         Err(_) => (gathered.back(), Status::SinkFault),
