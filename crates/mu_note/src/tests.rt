@@ -54,43 +54,6 @@ fn a_job_has_its_places(rt: HostRuntime) {
     assert_eq!(rt; blob_part_of(&tag), Ok(None));
 }
 
-#[test]
-fn each_place_of_a_part_counts(rt: HostRuntime) {
-    // A place and an octet there that makes the part foreign.
-    let cases: [(usize, u8); 8] = [
-        (0, 0),
-        (0, 2),
-        (1, 0),
-        (1, 3),
-        (3, 0),
-        (20, 1),
-        (40, 0xFF),
-        (63, 1),
-    ];
-    for (place, octet) in cases {
-        let mut tag = tag_of(&Some(JOB), &note_of_octet(0));
-        if place == 3 {
-            tag[2] = 19;
-        }
-        tag[place] = octet;
-        assert_eq!(rt; blob_part_of(&tag), Err(Foreign), "{place} {octet}");
-    }
-    let unbegun = BlobJob {
-        parameters: None,
-        ..JOB
-    };
-    for place in [1usize, 2, 3, 19] {
-        let mut tag = tag_of(&Some(unbegun), &note_of_octet(0));
-        tag[place] = 5;
-        assert_eq!(rt; blob_part_of(&tag), Err(Foreign), "{place}");
-    }
-    for place in [1usize, 4, 19, 63] {
-        let mut tag = tag_of(&None, &note_of_octet(0));
-        tag[place] = 1;
-        assert_eq!(rt; blob_part_of(&tag), Err(Foreign), "{place}");
-    }
-}
-
 fn node_with(active: Active, stored: Stored, index: u8) -> NodeNote {
     NodeNote {
         active,
@@ -147,41 +110,5 @@ fn notes_are_read_back(rt: HostRuntime) {
             Err(Foreign)
         );
         assert_eq!(rt; node_note_from(4, &node_note_octets(&two)), Err(Foreign));
-    }
-}
-
-#[test]
-fn each_place_of_a_note_counts(rt: HostRuntime) {
-    // A place and an octet there that makes the note of a node with one image foreign.
-    let cases: [(usize, u8); 10] = [
-        (0, 0),
-        (0, 2),
-        (0, 1),
-        (2, 0),
-        (2, 1),
-        (2, 3),
-        (4, 0),
-        (44, 1),
-        (46, 1),
-        (1727, 1),
-    ];
-    for (place, octet) in cases {
-        let mut octets = node_note_octets(&node_with(Active::One(0), Stored::Filling, 1));
-        octets[place] = octet;
-        assert_eq!(rt; node_note_from(2, &octets), Err(Foreign), "{place} {octet}");
-    }
-    // Without a job the TTL may be anything.
-    for (place, octet, is_read) in [
-        (3usize, 9u8, true),
-        (4, 1, false),
-        (43, 1, false),
-        (45, 1, false),
-    ] {
-        let mut octets = node_note_octets(&NodeNote {
-            active: Active::One(0),
-            job: None,
-        });
-        octets[place] = octet;
-        assert_eq!(rt; node_note_from(2, &octets).is_ok(), is_read, "{place}");
     }
 }
