@@ -141,7 +141,10 @@ fn what_was_printed_is_handed_on_before_the_next_read(rt: HostRuntime) -> Result
     let mut sink = BytesSink::new(alloc, 65536, &[1])?;
     assert_eq!(rt; status_of(alloc, &["replay"], &mut source, &mut sink)?, 4);
     let mut rest = [0; 9000];
-    assert_eq!(rt; source.read(&mut rest), Ok(script.len().saturating_sub(8192)));
+    assert_eq!(rt;
+        source.read(&mut rest),
+        Ok(script.len().saturating_sub(8192))
+    );
     Ok(())
 }
 
