@@ -66,7 +66,7 @@ pub fn rows()
     ensures follow { RowsFollowPackets }
 {}
 
-/// Nobody is dropped as Silent before five silent rounds of a step, and nobody at all for silence while applying or cancelling.
+/// Nobody is dropped as Silent before five silent rounds of a step, and time drops nobody in the steps Apply and Cancel.
 pub fn silence()
     ensures fifth { TimeChangesAtFive }
     ensures applying { ApplyingDropsNobody }
@@ -85,12 +85,13 @@ pub fn chunks()
     ensures sent { StepsSendTheirLists }
 {}
 
-/// Each list that is made goes to active receivers, or to the group; so a receiver that was dropped is in none.
+/// Each list that is made goes to receivers that its step may ask, or to the group: active ones, and in the step Cancel dropped ones too.
 pub fn lists()
     ensures { ListsGoToActive }
 {}
 
-/// From its beginning on a client's pending receivers are active ones with fewer than five silent rounds.
+/// From its beginning on a client's pending receivers are ones that its step may ask (active ones, but in the step Cancel), each with fewer
+/// than five silent rounds.
 pub fn clients_are_sound()
     ensures begins { BeginsSound }
     ensures events { EventsKeepSound }

@@ -1,12 +1,12 @@
 -- Whole runs of scripts with updaters and distributors.
-use Rattle.std.specs.Prelude.{ℕ, ◌≡◌, ◌⊎◌, false, List, [], Contains, Option, Some, Result, Ok}
+use Rattle.std.specs.Prelude.{ℕ, ◌≡◌, false, List, [], Contains, Option, Some, Result, Ok}
 use Rattle.mu_model_script.specs.Event.{Event, Settle}
 use Rattle.mu_model_script.specs.declared.LineFault.{LineFault}
 use Rattle.mu_model_script.specs.Lines.{script_event}
 use Rattle.mu_model_script.specs.Runs as runs
 use Rattle.mu_model_world.specs.Judged.{Judged, Silent, Refused, Sound}
 use Rattle.mu_model_mesh.specs.Mesh.{Mesh, new_mesh}
-use Rattle.mu_model_mesh.specs.MeshOutcomes.{MeshOutcome, mesh_outcomes, mesh_begun, given, time_comes}
+use Rattle.mu_model_mesh.specs.MeshOutcomes.{MeshOutcome, mesh_outcomes, mesh_begun}
 use Rattle.mu_model_mesh.specs.MeshJudged.{mesh_judged, is_past}
 use Rattle.mu_model_mesh.specs.Settle.{Settles}
 
@@ -44,16 +44,3 @@ MeshPrints = runs.Prints MeshStep new_mesh
 
 abbrev pub MeshRefuses : List (List ℕ) → (text : List ℕ) (number place : ℕ) (word : List ℕ) → Type 0
 MeshRefuses = runs.Refuses MeshStep MeshBars new_mesh
-
--- ---- within a line
-
--- From a world, whatever time passes at its members and whatever packets of the bag come to them, in any order: each world that a
--- `settle` goes through is reached so, also where it isn't carried through.
-pub data Reaches : Mesh → Mesh → Type 0 where
-  here : {m : Mesh} → Reaches m m
-  by_time : {m mid next : Mesh} (address ms : ℕ) (text : List ℕ) → Contains (time_comes m address ms) (record { mesh = mid; text = text }) → Reaches mid next → Reaches m next
-  by_packet : {m mid next : Mesh} (number address : ℕ) (text : List ℕ) → Contains (given m number address) (record { mesh = mid; text = text }) → Reaches mid next → Reaches m next
-
--- a world after a line, or within the next
-abbrev pub Within : Mesh → Mesh → Type 0
-Within m mid = (mid ≡ m) ⊎ Reaches (mesh_begun m) mid

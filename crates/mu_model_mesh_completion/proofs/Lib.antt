@@ -19,6 +19,5 @@ pub mod Lines
 pub mod Worked
 pub mod Resting
 pub mod Aims
-pub mod Exists
 pub mod Carried
 pub mod Scripts

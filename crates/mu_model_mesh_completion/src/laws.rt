@@ -11,6 +11,7 @@ use mu_model_client_laws::laws::{
 use mu_model_completion::laws::{nobody_is_dropped, pull_completes, push_completes};
 use mu_model_fates::laws::moments_are_the_greatest;
 use mu_model_image::laws::{blocks, chunks, images, made};
+use mu_model_mesh_runs::laws::settles_end;
 use mu_model_mesh_safety::laws::every_world_is_of_runs;
 use mu_model_node::laws::{flash_work, states_are_sound, told_phase};
 use mu_model_script::script_event_is_in_range;
@@ -19,8 +20,8 @@ use mu_model_wire::laws::{canonical_is_read, grammar_holds};
 /// Where nothing is lost, a `settle` of so many turns completes the update of an updater that has had no event: in push seven turns
 /// for each sixteen receivers, and for each block two for each sixteen receivers and one for each sixteen chunks; in pull with one
 /// receiver seven turns, and for each block one and two for each sixteen chunks. In push with full blocks and up to sixteen receivers
-/// in a group not a turn sooner. No receiver is dropped, after however many turns. And the `settle` is carried through where no
-/// flash is worn out on the way.
+/// in a group not a turn sooner. No receiver is dropped, after however many turns. And the `settle` is carried through where nothing
+/// would wear out a flash in the worlds that it goes through.
 pub fn settle_completes()
     ensures push { PushSettles }
     ensures no_sooner { PushSettlesNoSooner }
@@ -46,6 +47,7 @@ pub fn settle_completes()
     moments_are_the_greatest();
     grammar_holds();
     canonical_is_read();
+    settles_end();
 }
 
 /// Each world of each run of a script, whatever its lines and the outcomes of its tears are, is one that these laws ask for: its nodes

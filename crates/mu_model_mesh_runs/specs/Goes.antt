@@ -1,8 +1,8 @@
 -- What a `settle` goes through: in which worlds, and what comes to whom next.
-use Rattle.std.specs.Prelude.{ℕ, suc, ◌≡◌, ◌+◌, List, ◌∷◌, length, slice_get, Contains, Some}
+use Rattle.std.specs.Prelude.{ℕ, suc, ◌≡◌, ◌⊎◌, ◌+◌, List, ◌∷◌, length, slice_get, Contains, Some}
 use Rattle.mu_model_wire.specs.Packet.{Packet}
 use Rattle.mu_model_mesh.specs.Mesh.{Mesh, addressees, moment_at}
-use Rattle.mu_model_mesh.specs.MeshOutcomes.{MeshOutcome}
+use Rattle.mu_model_mesh.specs.MeshOutcomes.{MeshOutcome, mesh_begun}
 use Rattle.mu_model_mesh.specs.Settle.{turn_time, turn_comes, EachComes, given_to, Turns}
 
 -- what comes to the member of an address
@@ -39,3 +39,13 @@ pub data NextOfTurn (m : Mesh) : Coming → (x : Mesh) → Type 0 where
 pub data GoesThrough : (turns : ℕ) → Mesh → Coming → (x : Mesh) → Type 0 where
   in_turn : {turns : ℕ} {m x : Mesh} {coming : Coming} → NextOfTurn m coming x → GoesThrough (suc turns) m coming x
   in_later : {turns : ℕ} {m mid x : Mesh} {coming : Coming} (text : List ℕ) → Turns m text mid → GoesThrough turns mid coming x → GoesThrough (suc turns) m coming x
+
+-- a `settle` of some turns goes through this world, whether it is carried through or not
+pub record InSettle (m mid : Mesh) : Type 0 where
+  pub turns : ℕ
+  pub coming : Coming
+  pub through : GoesThrough turns m coming mid
+
+-- a world after a line, or within the next
+abbrev pub Within : Mesh → Mesh → Type 0
+Within m mid = (mid ≡ m) ⊎ InSettle (mesh_begun m) mid

@@ -11,8 +11,9 @@ use Rattle.mu_model_world.specs.Judged.{Objection, judged_event}
 use Rattle.mu_model_mesh.specs.Mesh.{Mesh, new_mesh}
 use Rattle.mu_model_mesh.specs.MeshOutcomes.{MeshOutcome, mesh_begun, mesh_outcomes}
 use Rattle.mu_model_mesh.specs.MeshJudged.{mesh_objection, mesh_judged_by, mesh_judged}
-use Rattle.mu_model_mesh.specs.MeshRun.{MeshMoves, IsDone, MeshRun, Reaches, here, by_time, by_packet, Within}
+use Rattle.mu_model_mesh.specs.MeshRun.{MeshMoves, IsDone, MeshRun}
 use Rattle.mu_model_mesh.specs.Settle.{turn_comes, EachComes, given_to, AllComes, none_left, comes, Turns, Settles}
+use Rattle.mu_model_mesh_runs.specs.Goes.{Coming, NextOfEach, first as next_of, later as later_of, NextOfAll, this, after, NextOfTurn, in_time, in_packets, GoesThrough, in_turn, in_later, Within}
 use Rattle.mu_model_mesh_safety.specs.Laws.{Always}
 use Rattle.mu_model_mesh_safety.proofs.Deeds.{Deed, still, says, node_goes, updater_goes, distributor_goes, adds_node, adds_updater, adds_distributor, stocks}
 use Rattle.mu_model_mesh_safety.proofs.DoingPlaces.{of_all}
@@ -89,17 +90,27 @@ module _ (P : Mesh → Type 0) (keep : (m next : Mesh) → P m → Deed m next �
 
   -- ---- within a line
 
-  late_reaches : {m mid : Mesh} → Late m → Reaches m mid → Late mid
-  late_reaches l here = l
-  late_reaches {m} l (by_time {mid = mid} address ms text is more) = late_reaches (came m _ mid text (deeds_of_time m l.begun address ms) l is) more
-  late_reaches {m} l (by_packet {mid = mid} number address text is more) = late_reaches (came m _ mid text (deeds_of_packet m l.begun number address) l is) more
+  late_next : (outs : Mesh → ℕ → List MeshOutcome) → ((m : Mesh) (address : ℕ) → m.nodes.begun ≡ true → AreDeeds m (outs m address)) → {addresses : List ℕ} {m x : Mesh} {address : ℕ}
+      → Late m → NextOfEach outs addresses m address x → Late x
+  late_next outs deeds l next_of = l
+  late_next outs deeds {m = m} l (later_of {own = own} {mid = mid} text is more) = late_next outs deeds (came m (outs m own) mid text (deeds m own l.begun) l is) more
 
-  pub reaches_keep : (m mid : Mesh) → P m → m.nodes.begun ≡ true → Reaches m mid → P mid
-  reaches_keep m mid p begun r = (late_reaches (record { holds = p; begun = begun }) r).holds
+  late_next_of_all : {number : ℕ} {m x : Mesh} {k address : ℕ} → Late m → NextOfAll number m k address x → Late x
+  late_next_of_all {number} l (this packet is next) = late_next (given_to number) (λ m address begun. deeds_of_packet m begun number address) l next
+  late_next_of_all {number} {m} l (after {mid = mid} text packet is each more) =
+      late_next_of_all (late_each (given_to number) (λ m address begun. deeds_of_packet m begun number address) _ m text mid l each) more
+
+  late_next_of_turn : (m x : Mesh) (coming : Coming) → Late m → NextOfTurn m coming x → Late x
+  late_next_of_turn m x coming l (in_time next) = late_next turn_comes (λ m address begun. deeds_of_time m begun address _) l next
+  late_next_of_turn m x coming l (in_packets {mid = mid} text each next) = late_next_of_all (late_each turn_comes (λ m address begun. deeds_of_time m begun address _) m.order m text mid l each) next
+
+  late_goes : {turns : ℕ} {m x : Mesh} {coming : Coming} → Late m → GoesThrough turns m coming x → Late x
+  late_goes {m = m} {x = x} {coming = coming} l (in_turn next) = late_next_of_turn m x coming l next
+  late_goes {m = m} l (in_later {mid = mid} text turn more) = late_goes (late_turn m text mid l turn) more
 
   pub within_keeps : (m mid : Mesh) → P m → Within m mid → P mid
   within_keeps m mid p (inl is) = subst P (sym is) p
-  within_keeps m mid p (inr r) = (late_reaches (late m p) r).holds
+  within_keeps m mid p (inr r) = (late_goes (late m p) r.through).holds
 
   -- ---- lines
 

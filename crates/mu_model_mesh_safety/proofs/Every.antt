@@ -15,14 +15,14 @@ use Rattle.mu_model_updater.specs.Laws.{LinesAreInRange, SendsFromItsAddress}
 use Rattle.mu_model_updater.specs.Updater.{come_by as event_packets}
 use Rattle.mu_model_mesh.specs.Mesh.{Mesh, new_mesh}
 use Rattle.mu_model_mesh.specs.MeshOutcomes.{mesh_begun}
-use Rattle.mu_model_mesh_safety.specs.Laws.{Always, MayCome, AfterCuts, EveryWorldIsOfRuns, EveryWorldIsSafe, EveryCutIsSafe, EveryListIsTrue, ListsStayTrue, EveryFactHolds}
+use Rattle.mu_model_mesh_safety.specs.Laws.{Always, MayCome, AfterCuts, EveryWorldIsOfRuns, EveryWorldIsSafe, EveryCutIsSafe, EveryListIsTrue, ListsStayTrue, EveryFactHolds, FactsStay}
 use Rattle.mu_model_mesh_safety.specs.Safe.{IsSafe, ListsAreTrue}
 use Rattle.mu_model_mesh_safety.specs.Facts.{TransfersAreKept, FactsHold}
 use Rattle.mu_model_mesh_safety.specs.Runs.{AreIn, IsOfRuns}
 use Rattle.mu_model_mesh_safety.proofs.Deeds.{Deed}
 use Rattle.mu_model_mesh_safety.proofs.Doing.{always_keeps}
 use Rattle.mu_model_mesh_safety.proofs.DoingEvents.{begins, deed_of_node_cut, deed_of_dist_cut}
-use Rattle.mu_model_mesh_safety.proofs.Facts.{statuses_are_reached, versions_rise, shown_images_were_had, jobs_are_logged, verified_jobs_go_on}
+use Rattle.mu_model_mesh_safety.proofs.Facts.{statuses_are_reached, versions_rise, shown_images_were_had, jobs_are_logged, jobs_were_offered, verified_jobs_go_on}
 use Rattle.mu_model_mesh_safety.proofs.KeepingLists.{weaker}
 use Rattle.mu_model_mesh_safety.proofs.Keeping.{kept_new, deed_keeps}
 use Rattle.mu_model_mesh_safety.proofs.Kept.{IsPacket, Kept}
@@ -149,9 +149,21 @@ module _ (laws : LineLaws) where
       versions = versions_rise members.rise m kept;
       images = shown_images_were_had laws.sent m kept;
       logged = jobs_are_logged laws.jobs m kept;
+      jobs = jobs_were_offered members.came m kept;
       go_on = verified_jobs_go_on laws.on m;
       transfers = own;
     }
 
     pub every_fact : FactLaws → EveryFactHolds
     every_fact facts_laws lines text m mid run within = facts facts_laws mid (always WithTransfers (transfers_kept facts_laws) (kept_new, transfers_new) lines text m mid run within)
+
+    pub every_fact_stays : FactLaws → FactsStay
+    every_fact_stays facts_laws lines text m mid run within =
+        let now = always WithTransfers (transfers_kept facts_laws) (kept_new, transfers_new) lines text m mid run within in
+        let begun : WithTransfers (mesh_begun mid) = transfers_kept facts_laws mid (mesh_begun mid) now (begins mid) in
+        record {
+          nodes = λ address n event time operations at comes.
+              facts facts_laws _ (transfers_kept facts_laws (mesh_begun mid) _ begun (deed_of_node_cut (mesh_begun mid) refl address n event time operations at (packets_come (mesh_begun mid) event comes)));
+          distributors = λ address d event time operations at comes.
+              facts facts_laws _ (transfers_kept facts_laws (mesh_begun mid) _ begun (deed_of_dist_cut (mesh_begun mid) refl address d event time operations at (packets_come (mesh_begun mid) event comes)));
+        }

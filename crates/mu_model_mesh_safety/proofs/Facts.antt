@@ -1,19 +1,20 @@
 -- What the invariant says of what is on the air and in the logs.
 use Rattle.std.proofs.Common.{◌≡◌, ℕ, zero, suc, ◌+◌, List, [], ◌∷◌, ◌++◌, Option, Some, None, refl, sym, ap, subst, ◌∙◌, Contains, arith, ⊎_elim}
 use Rattle.std.specs.List.{AllByRecursion}
+use Rattle.mu_model_image.specs.declared.Meta.{Meta}
 use Rattle.mu_model_image.specs.Meta.{Image}
 use Rattle.mu_model_wire.specs.Packet.{Packet}
-use Rattle.mu_model_node.specs.Log.{LogEntry, Reached}
+use Rattle.mu_model_node.specs.Log.{LogEntry, Took, Reached}
 use Rattle.mu_model_node.specs.NodeState.{Job, NodeDurable, NodeState, restarted}
 use Rattle.mu_model_node.specs.Safe.{InOrder, ImageIsSafe, found, log_after}
 use Rattle.mu_model_node.specs.UpdateMessages.{ShownJob, InformationStatus, UpdateStatus}
 use Rattle.mu_model_client.specs.Answers.{Answer, FromUpdate, answer_at}
-use Rattle.mu_model_fates.specs.Laws.{IsLogged, VersionsOf, JobIsLogged, JobGoesOn, VersionsRise as VersionsRiseInRuns}
+use Rattle.mu_model_fates.specs.Laws.{IsLogged, VersionsOf, JobIsLogged, JobGoesOn, TookWasOffered, IsOffer, come_in, VersionsRise as VersionsRiseInRuns}
 use Rattle.mu_model_told.specs.Laws.{HasNumbers}
 use Rattle.mu_model_told.specs.Reached.{WasReached, IdsAreSafe, IsReached, SentIsReached, sent_in}
 use Rattle.mu_model_world.specs.World.{Member, config_of, log_at}
 use Rattle.mu_model_mesh.specs.Mesh.{Mesh, node_at}
-use Rattle.mu_model_mesh_safety.specs.Facts.{StatusesAreReached, VersionsRise, AreOfImages, ShownImagesWereHad, JobsAreLogged, VerifiedJobsGoOn}
+use Rattle.mu_model_mesh_safety.specs.Facts.{StatusesAreReached, VersionsRise, AreOfImages, ShownImagesWereHad, JobsAreLogged, IsOfferedIn, JobsWereOffered, VerifiedJobsGoOn}
 use Rattle.mu_model_mesh_safety.specs.Runs.{NodeRun}
 use Rattle.mu_model_mesh_safety.proofs.DoingPlaces.{of_all}
 use Rattle.mu_model_mesh_safety.proofs.Kept.{IsLogOf, Kept}
@@ -101,3 +102,24 @@ jobs_are_logged law m k address n j at has =
 
 pub verified_jobs_go_on : JobGoesOn → (m : Mesh) → VerifiedJobsGoOn m
 verified_jobs_go_on law m address n j h at is = law (config_of address n) n.state h j is
+
+-- ---- jobs were offered
+
+offer_in : (bag came : List Packet) (n : Member) (address id index : ℕ) (meta : Meta) → AllByRecursion (λ (p : Packet). Contains bag p) came
+    → (packet : Packet) × Contains came packet × IsOffer (config_of address n) packet id index meta → IsOfferedIn bag id index meta
+offer_in bag came n address id index meta all (packet, has, offer) = record {
+  packet = packet;
+  in_bag = of_all (λ (p : Packet). Contains bag p) came packet all has;
+  start = offer.start;
+  asks = offer.asks;
+  same_id = offer.same_id;
+  same_index = offer.same_index;
+  same_meta = offer.same_meta;
+}
+
+pub jobs_were_offered : TookWasOffered → (m : Mesh) → Kept m → JobsWereOffered m
+jobs_were_offered came m k address n id index meta at took =
+    let run = k.nodes address n at in
+    let r : NodeRun m.nodes.bag address n = run.0 in
+    let own : InOrder (Took id index meta ∷ []) (log_after (config_of address n) (restarted r.made) r.hs) = subst (InOrder (Took id index meta ∷ [])) run.1 took in
+    offer_in m.nodes.bag (come_in r.hs) n address id index meta r.come (came (config_of address n) (restarted r.made) r.hs id index meta own)

@@ -1,10 +1,11 @@
 -- What is on the air and in the logs of a world is so: the facts that safety rests on, each by its name.
-use Rattle.std.specs.Prelude.{ℕ, ◌≡◌, ◌≤◌, ◌+◌, ◌||◌, Bool, true, false, is_some, List, [], ◌∷◌, Option, Some, None}
+use Rattle.std.specs.Prelude.{ℕ, ◌≡◌, ◌≤◌, ◌+◌, ◌||◌, Bool, true, false, is_some, List, [], ◌∷◌, Option, Some, None, Contains}
 use Rattle.std.specs.List.{AllByRecursion}
-use Rattle.mu_model_image.specs.Meta.{Image, firmware_id, own_company}
+use Rattle.mu_model_image.specs.declared.Meta.{Meta}
+use Rattle.mu_model_image.specs.Meta.{Image, firmware_id, own_company, meta_from}
 use Rattle.mu_model_wire.specs.Packet.{Packet}
 use Rattle.mu_model_node.specs.Events.{NodeEvent}
-use Rattle.mu_model_node.specs.Log.{LogEntry, Reached, logged}
+use Rattle.mu_model_node.specs.Log.{LogEntry, Took, Reached, logged}
 use Rattle.mu_model_node.specs.NodeMessages.{OfUpdate, request_at}
 use Rattle.mu_model_node.specs.NodeState.{Job}
 use Rattle.mu_model_node.specs.Safe.{Happening, InOrder, ImageIsSafe, happened}
@@ -77,6 +78,23 @@ abbrev pub JobsAreLogged : Mesh → Type 0
 JobsAreLogged m =
     (address : ℕ) (n : Member) (j : Job) → node_at m address ≡ Some n → n.state.durable.job ≡ Some j → IsLogged (log_at address m.nodes.log) j
 
+-- ---- jobs were offered: of each job that a node took there is an Update Start in the bag
+
+-- one with this BLOB ID offers these metadata for the image of this index
+pub record IsOfferedIn (bag : List Packet) (id index : ℕ) (meta : Meta) : Type 0 where
+  pub packet : Packet
+  pub in_bag : Contains bag packet
+  pub start : UpdateStart
+  pub asks : request_at packet.payload ≡ Some (OfUpdate (StartUpdate start))
+  pub same_id : start.id ≡ id
+  pub same_index : start.index ≡ index
+  pub same_meta : meta_from start.metadata ≡ Some meta
+
+abbrev pub JobsWereOffered : Mesh → Type 0
+JobsWereOffered m =
+    (address : ℕ) (n : Member) (id index : ℕ) (meta : Meta) → node_at m address ≡ Some n → InOrder (Took id index meta ∷ []) (log_at address m.nodes.log)
+    → IsOfferedIn m.nodes.bag id index meta
+
 -- ---- verified jobs go on: to be applied, or by being canceled; and applied ones become the active image
 
 abbrev pub VerifiedJobsGoOn : Mesh → Type 0
@@ -107,5 +125,6 @@ pub record FactsHold (m : Mesh) : Type 0 where
   pub versions : VersionsRise m
   pub images : ShownImagesWereHad m
   pub logged : JobsAreLogged m
+  pub jobs : JobsWereOffered m
   pub go_on : VerifiedJobsGoOn m
   pub transfers : TransfersAreKept m

@@ -7,7 +7,8 @@ use Rattle.mu_model_world.specs.World.{Member, config_of}
 use Rattle.mu_model_world.specs.Outcomes.{booted}
 use Rattle.mu_model_mesh.specs.Mesh.{DistributorMember, Mesh, new_mesh, node_at, distributor_at}
 use Rattle.mu_model_mesh.specs.MeshOutcomes.{of_nodes, dist_booted, mesh_begun}
-use Rattle.mu_model_mesh.specs.MeshRun.{MeshRun, Within}
+use Rattle.mu_model_mesh.specs.MeshRun.{MeshRun}
+use Rattle.mu_model_mesh_runs.specs.Goes.{Within}
 use Rattle.mu_model_mesh_safety.specs.Facts.{FactsHold}
 use Rattle.mu_model_mesh_safety.specs.Runs.{IsOfRuns}
 use Rattle.mu_model_mesh_safety.specs.Safe.{IsSafe, ListsAreTrue}
@@ -54,3 +55,6 @@ ListsStayTrue = Always (λ m. AfterCuts ListsAreTrue (mesh_begun m))
 
 abbrev pub EveryFactHolds : Type 0
 EveryFactHolds = Always FactsHold
+
+abbrev pub FactsStay : Type 0
+FactsStay = Always (λ m. AfterCuts FactsHold (mesh_begun m))

@@ -1,6 +1,6 @@
 //! Laws over whole runs: functions that do nothing, whose contracts are proved.
 
-ghost use Rattle.mu_model_mesh_safety.specs.Laws.{EveryWorldIsOfRuns, EveryWorldIsSafe, EveryCutIsSafe, EveryListIsTrue, ListsStayTrue, EveryFactHolds};
+ghost use Rattle.mu_model_mesh_safety.specs.Laws.{EveryWorldIsOfRuns, EveryWorldIsSafe, EveryCutIsSafe, EveryListIsTrue, ListsStayTrue, EveryFactHolds, FactsStay};
 
 use mu_model_distributor_laws::laws::{runs_are_in_order, starts_are_in_order};
 use mu_model_fates::laws::{
@@ -25,6 +25,7 @@ pub fn every_world_is_safe()
     ensures lists { EveryListIsTrue }
     ensures lists_after { ListsStayTrue }
     ensures facts { EveryFactHolds }
+    ensures facts_after { FactsStay }
 {
     mu_model_wire::laws::grammar_holds();
     mu_model_wire::laws::reads_what_is_spelled();

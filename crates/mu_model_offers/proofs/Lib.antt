@@ -7,3 +7,4 @@ pub mod Agree
 pub mod Lists
 pub mod Read
 pub mod Packets
+pub mod Images

@@ -31,7 +31,7 @@ packet_spelled : (address : ℕ) (s : DistState) (from : ℕ) (taken : Option Ta
 packet_spelled address s from (Some taken) = refl
 packet_spelled address s from None = refl
 
-event_spelled : (address : ℕ) (s : DistState) (event : NodeEvent) → Spelled address (on_event address s event).sends (on_event address s event).sent
+pub event_spelled : (address : ℕ) (s : DistState) (event : NodeEvent) → Spelled address (on_event address s event).sends (on_event address s event).sent
 event_spelled address s (PacketComes packet) =
     elim (packet.to == address) as (λ b. Spelled address (cond b (on_packet address s packet.from (taken_at packet.payload)) (passed_over s)).sends (cond b (on_packet address s packet.from (taken_at packet.payload)) (passed_over s)).sent) [
       | true ↦ packet_spelled address s packet.from (taken_at packet.payload)
@@ -78,7 +78,7 @@ update_says reads address to UpdateGet u small h = λ e. never _ u get_other e
 update_says reads address to UpdateCancel u small h = λ e. never _ u cancel_other e
 update_says reads address to UpdateApply u small h = λ e. never _ u apply_other e
 
-sent_says : RequestsAreRead → (address to : ℕ) (sent : Sent) (u : UpdateStart) → address < 2 ^ 16 → IsOwnAs address (to, sent) → Says sent u
+pub sent_says : RequestsAreRead → (address to : ℕ) (sent : Sent) (u : UpdateStart) → address < 2 ^ 16 → IsOwnAs address (to, sent) → Says sent u
 sent_says reads address to (ByDistribution reply) u small h = λ e. never _ u (reply_other reply) e
 sent_says reads address to (ByBlob reply) u small h = λ e. never _ u (blob_other reply) e
 sent_says reads address to (ByClient (OfUpdate request)) u small h = update_says reads address to request u small h

@@ -1,6 +1,6 @@
 //! Laws of the definitions: functions that do nothing, whose contracts are proved.
 
-ghost use Rattle.mu_model_offers.specs.Packets.{PacketsSayStarts};
+ghost use Rattle.mu_model_offers.specs.Packets.{PacketsSayStarts, StartsAreOfImages};
 ghost use Rattle.mu_model_offers.specs.Laws.{HeardAgree, HeardAgrees, HeardIsOwn, ListsAgree, RowsAgree, RowsStandOnce, StartsAgree, StartsAreOwn};
 
 /// A distributor, whatever comes to it and whenever the power goes: its Update Starts under one BLOB ID have one image's metadata and
@@ -39,5 +39,19 @@ pub fn packets_say_starts()
     mu_model_distributor_laws::laws::rows_move_by_cause();
     mu_model_distributor_laws::laws::rests_stand();
     mu_model_distributor_laws::laws::starts_are_in_order();
+    mu_model_distributor_laws::laws::rows_are_told();
+}
+
+/// What a node reads so offers an image that the distributor has when the event comes.
+pub fn starts_are_of_images()
+    ensures { StartsAreOfImages }
+{
+    mu_model_image::laws::metadata();
+    mu_model_client_laws::laws::requests_are_read();
+    mu_model_distributor_laws::laws::states_are_sound();
+    mu_model_distributor_laws::laws::flash_work();
+    mu_model_distributor_laws::laws::starts_are_offered();
+    mu_model_distributor_laws::laws::rows_move_by_cause();
+    mu_model_distributor_laws::laws::rests_stand();
     mu_model_distributor_laws::laws::rows_are_told();
 }

@@ -42,5 +42,5 @@ returns c =
       pull = pull_settles all wire own aim c.pull_completes.ensures;
       push_drops_nobody = push_drops_nobody all wire own aim c.nobody_is_dropped.ensures.push;
       pull_drops_nobody = pull_drops_nobody all wire own aim c.nobody_is_dropped.ensures.pull;
-      carried = settle_is_carried all wire own aim;
+      carried = settle_is_carried c.settles_end.ensures.end;
     }

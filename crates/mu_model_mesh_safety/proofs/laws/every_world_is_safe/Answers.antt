@@ -1,4 +1,4 @@
-use Rattle.mu_model_mesh_safety.proofs.Every.{LineLaws, FactLaws, every_world, every_cut, every_list, every_list_stays, every_fact}
+use Rattle.mu_model_mesh_safety.proofs.Every.{LineLaws, FactLaws, every_world, every_cut, every_list, every_list_stays, every_fact, every_fact_stays}
 use Rattle.mu_model_mesh_safety.proofs.ShownLaws.{MemberLaws}
 use Rattle.mu_model_mesh_safety.proofs.ShownOctets.{octets_offer}
 use Rattle.mu_model_mesh_safety.proofs.laws.every_world_is_safe.Goals as goal
@@ -75,3 +75,6 @@ returns-clause-lists_after c = every_list_stays (lines_of c) (members_of c)
 
 pub returns-clause-facts : goal.returns-clause-facts
 returns-clause-facts c = every_fact (lines_of c) (members_of c) (facts_of c)
+
+pub returns-clause-facts_after : goal.returns-clause-facts_after
+returns-clause-facts_after c = every_fact_stays (lines_of c) (members_of c) (facts_of c)

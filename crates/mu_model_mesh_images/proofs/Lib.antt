@@ -1,0 +1,5 @@
+pub mod Lists
+pub mod Events
+pub mod Settling
+pub mod Runs
+pub mod Active

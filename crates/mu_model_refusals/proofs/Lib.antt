@@ -1,0 +1,7 @@
+pub mod Readers
+pub mod Fields
+pub mod Messages
+pub mod Begins
+pub mod Longs
+pub mod Fixed
+pub mod Lists

@@ -1,0 +1,4 @@
+//! What a refusal of octets says of them: its reason and its place.
+#![tactic(auto)]
+
+pub mod laws;

@@ -1,0 +1,4 @@
+pub mod Folds
+pub mod Updaters
+pub mod Distributors
+pub mod Statuses
