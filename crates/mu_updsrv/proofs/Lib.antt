@@ -1,0 +1,4 @@
+pub mod Tags
+pub mod Openings
+pub mod Makings
+pub mod Made
