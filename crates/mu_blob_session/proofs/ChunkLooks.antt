@@ -9,7 +9,8 @@ use Rattle.mu_model_node.specs.Slots.{at}
 use Rattle.mu_model_node.specs.BlobMessages.{ChunkTransfer}
 use Rattle.mu_model_node.specs.BlobServer.{Server, heard_at}
 use Rattle.mu_model_node.specs.BlobTable.{silently, on_blob}
-use Rattle.mu_block.specs.Coming.{Coming, chunks_of, octets_of_chunk}
+use Rattle.std.specs.Option.{option_map}
+use Rattle.mu_block.specs.Coming.{Coming, chunks_of, octets_of_chunk, with_chunk}
 use Rattle.mu_blob_rows.specs.declared.looks.Look.{Look}
 use Rattle.mu_blob_rows.specs.declared.looks.TransferLook.{TransferLook}
 use Rattle.mu_blob_rows.specs.declared.looks.Serving.{Serving}
@@ -68,3 +69,9 @@ passed v w from chunk octets e row = subst (λ (x : Server). on_blob x from (Chu
 
 pub heard : (v w : Server) (from chunk : ℕ) (octets : List ℕ) → v ≡ w → on_blob v from (ChunkTransfer chunk octets) ≡ silently (heard_at v.now v.session) → on_blob w from (ChunkTransfer chunk octets) ≡ silently (heard_at w.now w.session)
 heard v w from chunk octets e row = subst (λ (x : Server). on_blob x from (ChunkTransfer chunk octets) ≡ silently (heard_at x.now x.session)) e row
+
+-- ---- the block keeps its number
+
+pub same_number : (coming : Option Coming) (chunk : ℕ) (octets : List ℕ) → option_map (λ c. c.block.number) (option_map (λ c. with_chunk c chunk octets) coming) ≡ option_map (λ c. c.block.number) coming
+same_number None chunk octets = refl
+same_number (Some c) chunk octets = refl

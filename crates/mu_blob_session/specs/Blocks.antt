@@ -1,8 +1,8 @@
 -- The block that comes, as the rows look at it.
-use Rattle.std.specs.Prelude.{Bool, true, false, Option, Some, None}
+use Rattle.std.specs.Prelude.{ℕ, Bool, true, false, Option, Some, None, if◌then◌else◌}
 use Rattle.mu_model_node.specs.declared.Link.{Link}
 use Rattle.mu_model_node.specs.declared.Link.TheVariants.{Cut}
-use Rattle.mu_model_node.specs.BlobServer.{CurrentBlock}
+use Rattle.mu_model_node.specs.BlobServer.{CurrentBlock, Session, made_ready, heard_at}
 use Rattle.mu_block.specs.Coming.{Coming}
 use Rattle.mu_blob_rows.specs.declared.looks.BlockLook.{BlockLook}
 use Rattle.mu_blob_rows.specs.declared.session.LinkChange.{LinkChange}
@@ -24,3 +24,7 @@ coming_after _ coming = coming
 abbrev pub is_cut_link : Link → Bool
 is_cut_link Cut = true
 is_cut_link _ = false
+
+-- a job is taken up again: it is heard, and a Cut link becomes Ready (this profile)
+abbrev pub resumed : ℕ → Session → Session
+resumed now l = if is_cut_link l.link then made_ready now l else heard_at now l

@@ -1,5 +1,5 @@
 -- What came of a chunk.
-use Rattle.std.specs.Prelude.{◌≡◌, ℕ, true, List, [], ◌∷◌, length, nat_lt, is_some, if◌then◌else◌, Option, Some, None}
+use Rattle.std.specs.Prelude.{◌≡◌, ◌⊎◌, ℕ, true, List, [], ◌∷◌, length, nat_lt, is_some, if◌then◌else◌, Option, Some, None}
 use Rattle.mu_model_image.specs.Pieces.{chunk_length}
 use Rattle.mu_model_node.specs.declared.Parameters.{Parameters}
 use Rattle.mu_model_node.specs.Slots.{at, is_full}
@@ -33,3 +33,7 @@ CameAs o l coming (Whole p) = CameWhole o l p coming
 abbrev pub asked_of : Option (ℕ × List ℕ) → List (ℕ × BlobReply)
 asked_of None = []
 asked_of (Some asked) = (asked.0, PartialBlockReport asked.1) ∷ []
+
+-- the block that came still comes, or none does
+abbrev pub StaysOrGoes : Option Coming → Option Coming → Type 0
+StaysOrGoes old new = (new ≡ old) ⊎ (new ≡ None)

@@ -5,7 +5,7 @@ ghost use Rattle.mu_model_node.specs.Slots.{Slots, joined};
 ghost use Rattle.mu_model_node.specs.BlobMessages.{ChunkTransfer};
 ghost use Rattle.mu_model_node.specs.BlobServer.{Puts, heard_at};
 ghost use Rattle.mu_model_node.specs.BlobTable.{on_blob, completes, to_client};
-ghost use Rattle.mu_block.specs.Coming.{Coming, octets_of_chunk, with_chunk, is_whole, whole_of};
+ghost use Rattle.mu_block.specs.Coming.{Coming, octets_of_chunk, with_chunk, is_whole, whole_of, whole_size};
 ghost use Rattle.mu_blob_session.specs.Sound.{Suits};
 ghost use Rattle.mu_blob_session.specs.Came.{CameAs, chunk_look};
 
@@ -45,9 +45,10 @@ impl BlobSession {
         self.block.number()
     }
 
-    /// The octets of the block that comes, where every chunk is there.
+    /// The octets of the block that comes, where every chunk is there: as many as it has.
     pub fn block_octets(&self) -> Option<&[u8]>
-        ensures { option_copied result ≡ whole_of (coming_in self.now) }
+        ensures octets { option_copied result ≡ whole_of (coming_in self.now) }
+        ensures length { option_map (λ octets. length octets.now) result ≡ whole_size (coming_in self.now) }
     {
         self.block.octets()
     }
@@ -72,6 +73,7 @@ impl BlobSession {
     pub fn chunk(&mut self, kept: Kept, chunk: u16, octets: &[u8], now: u64) -> Came
         requires { Suits kept.serving (session_in self.old).link (coming_in self.old) }
         ensures suits { Suits kept.serving (session_in self.new).link (coming_in self.new) }
+        ensures number { option_map (λ c. c.block.number) (coming_in self.new) ≡ option_map (λ c. c.block.number) (coming_in self.old) }
         ensures row { (held : Slots) (from : ℕ) → CameAs (on_blob (server_in self.old kept held now) from (ChunkTransfer chunk octets.now)) (session_in self.new) (coming_in self.new) result }
     {
         let look = look_of(&self.block, chunk);

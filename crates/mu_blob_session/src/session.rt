@@ -4,8 +4,8 @@ ghost use Rattle.mu_model_wire.specs.Reports.{complement};
 ghost use Rattle.mu_model_node.specs.Slots.{Slots, missing, received};
 ghost use Rattle.mu_model_node.specs.BlobServer.{asleep, unlinked, made_ready};
 ghost use Rattle.mu_blob_rows.specs.Sessions.{link_by};
-ghost use Rattle.mu_block.specs.Coming.{chunks_of};
-ghost use Rattle.mu_blob_session.specs.Blocks.{block_look, coming_after, is_cut_link};
+ghost use Rattle.mu_block.specs.Coming.{chunks_of, IsOpen};
+ghost use Rattle.mu_blob_session.specs.Blocks.{block_look, coming_after, is_cut_link, resumed};
 ghost use Rattle.mu_blob_rows.specs.Looks.{server_with as looked_server};
 
 use mu_blob_rows::{BlockLook, LinkChange, Look, Serving, Session};
@@ -76,6 +76,17 @@ impl BlobSession {
         self.session.make_ready(now);
     }
 
+    /// A job is taken up again: it is heard, and a Cut link becomes Ready.
+    pub fn resume(&mut self, now: u64)
+        ensures session { session_in self.new ≡ resumed now (session_in self.old) }
+        ensures block { coming_in self.new ≡ coming_in self.old }
+    {
+        match self.session.link {
+            Link::Cut => self.make_ready(now),
+            _ => self.session.heard = now,
+        }
+    }
+
     /// Does what a row of the table does to the link.
     pub fn link(&mut self, change: LinkChange, now: u64, from: u16)
         ensures session { session_in self.new ≡ link_by change now from (session_in self.old) }
@@ -90,6 +101,13 @@ impl BlobSession {
         ensures { result ≡ is_cut_link (session_in self.now).link }
     {
         self.session.link == Link::Cut
+    }
+
+    /// What holds of every block that comes: its ranges. It does nothing.
+    pub fn known(&self)
+        ensures { IsOpen (coming_in self.now) }
+    {
+        let _ = self.block.is_open();
     }
 
     /// The chunks of the block that comes that are missing: those below its count that weren't received since it began. The empty set below 0 where no

@@ -5,7 +5,7 @@ ghost use Rattle.mu_model_node.specs.Slots.{Slots};
 ghost use Rattle.mu_model_node.specs.BlobServer.{Same};
 ghost use Rattle.mu_model_node.specs.BlobTable.{on_server_time};
 ghost use Rattle.mu_blob_session.specs.Sound.{Suits};
-ghost use Rattle.mu_blob_session.specs.Came.{asked_of};
+ghost use Rattle.mu_blob_session.specs.Came.{asked_of, StaysOrGoes};
 
 use crate::session::{BlobSession, Kept};
 use arrayvec::ArrayVec;
@@ -52,6 +52,7 @@ impl BlobSession {
     pub fn time(&mut self, kept: Kept, now: u64) -> Option<(u16, ArrayVec<u16, 16>)>
         requires { Suits kept.serving (session_in self.old).link (coming_in self.old) }
         ensures suits { Suits kept.serving (session_in self.new).link (coming_in self.new) }
+        ensures stays { StaysOrGoes (coming_in self.old) (coming_in self.new) }
         ensures row { (held : Slots)
             → on_server_time (server_in self.old kept held now) (server_in self.old kept held now).serving ≡ record { session = session_in self.new; change = Same; replies = asked_of (option_map (λ asked. (asked.0, asked.1.items)) result) } }
     {

@@ -15,7 +15,7 @@ use borrow.Rule.Slice.PartMut.{put_mid}
 use Rattle.mu_model_wire.specs.Reports.{has, complement}
 use Rattle.mu_model_image.specs.Pieces.{chunk_of, chunk_count, chunk_length, chunks_of}
 use Rattle.mu_model_node.specs.Slots.{Slots, at, missing, is_full, joined, held_count}
-use Rattle.mu_block.specs.Coming.{Coming, IsComing, IsOpen, octets_of_chunk, opened, with_chunk, is_whole, whole_of}
+use Rattle.mu_block.specs.Coming.{Coming, IsComing, IsOpen, octets_of_chunk, opened, with_chunk, is_whole, whole_of, whole_size}
 use Rattle.std.specs.Option.{option_map}
 use Rattle.std.proofs.lemmas.Bool.{ltb-true}
 use Rattle.mu_block.specs.Buffer.{chunk_in, chunks_in, coming, AreFields}
@@ -220,4 +220,15 @@ whole_shows true number n size came left octets v block e f full tile is =
     joined_block (take size octets) n came all (f.count ∙ ap (λ (m : ℕ). chunk_count m n) (sym long)) ∙ tile (take size octets) n (omega (arith, f.chunk_least)) in
     ap (λ (xs : List ℕ). Some xs) (is ∙ sym whole) ∙ sym (ap (λ (b : Bool). if b then Some (joined slots) else None) all) ∙ ap whole_of e
 whole_shows false number n size came left octets v block e f full tile is =
+    let no : false ≡ true = ap is_whole e ∙ full in cc
+
+pub whole_sized : (o : Bool) (number n size : ℕ) (came : List Bool) (left : ℕ) (octets : List ℕ) (v : Option Coming) (block : List ℕ)
+    → (if o then Some (coming number n size came octets) else None) ≡ v → AreFields n size came left octets → is_whole v ≡ true
+    → block ≡ take size octets → Some (length block) ≡ whole_size v
+whole_sized true number n size came left octets v block e f full is =
+    let slots : Slots = chunks_in (take size octets) n came in
+    let all : is_full slots ≡ true = ap is_whole e ∙ full in
+    let long : length block ≡ size = ap (length {A = ℕ}) is ∙ length-take-le size octets (omega (arith, f.size_most, f.room)) in
+    ap (λ (m : ℕ). Some m) long ∙ sym (ap (λ (b : Bool). if b then Some size else None) all) ∙ ap whole_size e
+whole_sized false number n size came left octets v block e f full is =
     let no : false ≡ true = ap is_whole e ∙ full in cc

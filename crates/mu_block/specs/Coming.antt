@@ -41,6 +41,11 @@ abbrev pub whole_of : Option Coming → Option (List ℕ)
 whole_of None = None
 whole_of (Some c) = if is_full c.block.chunks then Some (joined c.block.chunks) else None
 
+-- how many these are
+abbrev pub whole_size : Option Coming → Option ℕ
+whole_size None = None
+whole_size (Some c) = if is_full c.block.chunks then Some c.size else None
+
 -- The ranges of a block that comes (MshMBT: Chunk Size; this profile: 16,384 octets a block, 376 a chunk). It has as many chunks as its
 -- octets make, and each that is there has its length.
 pub record IsComing (c : Coming) : Type 0 where

@@ -4,7 +4,7 @@ ghost use Rattle.std.specs.List.{count_by};
 ghost use Rattle.std.specs.Option.{option_map, option_copied};
 ghost use Rattle.mu_model_wire.specs.Reports.{has, complement};
 ghost use Rattle.mu_model_node.specs.Slots.{at, received, missing, held_count};
-ghost use Rattle.mu_block.specs.Coming.{opened, chunks_of, octets_of_chunk, with_chunk, is_whole, whole_of, IsOpen};
+ghost use Rattle.mu_block.specs.Coming.{opened, chunks_of, octets_of_chunk, with_chunk, is_whole, whole_of, whole_size, IsOpen};
 
 use mu_arith::{chunk_count, chunk_len};
 use mu_model_image::laws::chunks;
@@ -155,9 +155,10 @@ impl BlockBuffer {
         self.open && self.left == 0
     }
 
-    /// The octets of the block, where every chunk is there.
+    /// The octets of the block, where every chunk is there: as many as it has.
     pub fn octets(&self) -> Option<&[u8]>
-        ensures { option_copied result ≡ whole_of self.now }
+        ensures octets { option_copied result ≡ whole_of self.now }
+        ensures length { option_map (λ octets. length octets.now) result ≡ whole_size self.now }
     {
         chunks();
         if !self.is_full() {
