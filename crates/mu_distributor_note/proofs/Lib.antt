@@ -1,0 +1,4 @@
+pub mod Octets
+pub mod RowOctets
+pub mod Layouts
+pub mod RowRules
