@@ -30,12 +30,13 @@ receiver_of s = record {
 abbrev pub receivers_of : List Slot → List Receiver
 receivers_of slots = map receiver_of slots
 
--- the receiver before the end of the round was counted
+-- the receiver before the time event
 abbrev pub before : Slot → Receiver
 before s = record (receiver_of s) {
   row = record (row_of s) { phase = s.was.phase };
   standing = s.was.standing;
   pending = s.was.pending;
+  heard = s.was.heard;
   silent = s.was.silent;
   wanted = if s.was.wants then s.wanted else [];
 }

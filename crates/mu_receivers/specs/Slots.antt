@@ -21,37 +21,57 @@ pub record KeepsList (old new : Slot) : Type 0 where
   pub message : new.listed ≡ old.listed
   pub chunks : new.asked ≡ old.asked
 
+-- what is kept of how the receiver was before the time event
+pub record KeepsWas (old new : Slot) : Type 0 where
+  pub receiver : before new ≡ before old
+  pub message : new.was.listed ≡ old.was.listed
+
+-- how the receiver is before a time event
+pub record IsKept (old new : Slot) : Type 0 where
+  pub receiver : receiver_of new ≡ receiver_of old
+  pub was : before new ≡ receiver_of old
+  pub was_listed : new.was.listed ≡ old.listed
+  pub list : KeepsList old new
+
 -- the begin of a step: its message is to go to the receiver where it is pending
 pub record IsBegun (step : Step) (old new : Slot) : Type 0 where
   pub receiver : receiver_of new ≡ begun step (receiver_of old)
   pub list : (p : Sending) (purpose : Purpose) → listed p purpose step new ≡ said_if (receiver_of new) (step_message p purpose step (receiver_of new)) new.pending
+  pub address : new.address ≡ old.address
   pub chunks : new.asked ≡ old.asked
+  pub was : KeepsWas old new
 
 -- the end of a round
 pub record IsCounted (step : Step) (old new : Slot) : Type 0 where
   pub receiver : receiver_of new ≡ round_counted step (receiver_of old)
-  pub was : before new ≡ receiver_of old
+  pub was : KeepsWas old new
   pub list : KeepsList old new
 
--- the end of a round, taken back
+-- a time event, taken back
 pub record IsTakenBack (old new : Slot) : Type 0 where
   pub receiver : receiver_of new ≡ before old
-  pub list : KeepsList old new
+  pub message : new.listed ≡ old.was.listed
+  pub address : new.address ≡ old.address
+  pub chunks : new.asked ≡ old.asked
 
 -- a new round of a step
 pub record IsRenewed (step : Step) (old new : Slot) : Type 0 where
   pub receiver : receiver_of new ≡ unheard (receiver_of old)
   pub list : (p : Sending) (purpose : Purpose) → listed p purpose step new ≡ said_if (receiver_of old) (again_message p purpose step (receiver_of old)) old.pending
+  pub address : new.address ≡ old.address
   pub chunks : new.asked ≡ old.asked
+  pub was : KeepsWas old new
 
 pub record IsUnwanting (old new : Slot) : Type 0 where
   pub receiver : receiver_of new ≡ unwanted (receiver_of old)
+  pub was : KeepsWas old new
   pub list : KeepsList old new
 
 -- the list has the chunks of one of its sets for the receiver, where that is active
 pub record IsAsked (which : Receiver → List Bool) (old new : Slot) : Type 0 where
   pub receiver : receiver_of new ≡ receiver_of old
-  pub was : before new ≡ before old
+  pub was : KeepsWas old new
+  pub address : new.address ≡ old.address
   pub message : new.listed ≡ old.listed
   pub chunks : (k : ℕ) → has new.asked k ≡ lacks_chunk which k (receiver_of old)
 

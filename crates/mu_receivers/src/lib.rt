@@ -2,6 +2,7 @@
 //! chunks are read from.
 #![tactic(auto)]
 
+mod blocks;
 mod each;
 mod image;
 mod lists;
@@ -10,10 +11,13 @@ mod reads;
 mod seen;
 mod slot;
 
-pub use each::{ask_missing, ask_wanted, begin, count, renew, take_back, unwant};
+pub use blocks::least_missed;
+pub use each::{ask_missing, ask_wanted, begin, count, keep, renew, take_back, unwant};
 pub use image::{FaultyImage, ImageBytes, SliceImage};
-pub use lists::{Cursor, Spot, Spots, spots_from};
+pub use lists::{Cursor, Spot, Spots, first_cursor, spots_from};
 pub use one::{answer, drop_by};
 pub use reads::read_chunk;
-pub use seen::{is_any_begun_for, is_any_missing_chunks, is_any_pending, is_in, number};
+pub use seen::{
+    is_any_begun_for, is_any_listed, is_any_missing_chunks, is_any_pending, is_in, number,
+};
 pub use slot::{Slot, Was};

@@ -1,5 +1,5 @@
 // A list of chunks, from a place on.
-ghost use Rattle.std.specs.Prelude.{[], ◌≡◌, ℕ, ◌≤◌, ◌<◌, ◌++◌, false, length, drop, IsSome, IfSome, OnOk};
+ghost use Rattle.std.specs.Prelude.{[], ◌≡◌, ℕ, ◌≤◌, ◌<◌, ◌++◌, false, length, drop, IfSome};
 ghost use Rattle.std.specs.Option.{MatchOption};
 ghost use Rattle.arrayvec.specs.ArrayVec.{array_vec_len};
 ghost use Rattle.mu_model_wire.specs.Reports.{has};
@@ -131,4 +131,23 @@ pub fn spots_from(slots: &[Slot], group: u16, b: u16, n: u16, from: Cursor) -> S
         k = next_asked(slots, n, k + 1);
     }
     Spots { spots, next: None }
+}
+
+/// Where the list of the chunks of block `b` begins, if it has a chunk.
+pub fn first_cursor(slots: &[Slot], group: u16, b: u16, n: u16) -> Option<Cursor>
+    requires few { length slots.now ≤ 128 }
+    ensures list { MatchOption result (rest group b n slots.now 0 0 ≡ []) (λ at. rest group b n slots.now at.chunk at.receiver ≡ rest group b n slots.now 0 0) }
+    ensures some { IfSome result (λ at. is_empty (rest group b n slots.now at.chunk at.receiver) ≡ false) }
+    ensures within { IfSome result (λ at. at.receiver ≤ length slots.now) }
+{
+    let start = Cursor {
+        chunk: 0,
+        receiver: 0,
+    };
+    let found = spots_from(slots, group, b, n, start);
+    if found.spots.is_empty() {
+        None
+    } else {
+        Some(start)
+    }
 }

@@ -4,8 +4,8 @@ ghost use Rattle.mu_model_client.specs.Client.{step_number};
 ghost use Rattle.mu_model_client.specs.Told.{answered, dropped};
 ghost use Rattle.mu_model_client.specs.Lists.{missing_of, wanted_of};
 ghost use Rattle.mu_model_client.specs.Going.{silent_after, fell_silent};
-ghost use Rattle.mu_receivers.specs.Receivers.{receiver_of, before};
-ghost use Rattle.mu_receivers.specs.Slots.{KeepsList, IsBegun, IsCounted, IsTakenBack, IsRenewed, IsUnwanting, IsAsked, IsFew, by_message, passes_over};
+ghost use Rattle.mu_receivers.specs.Receivers.{receiver_of};
+ghost use Rattle.mu_receivers.specs.Slots.{KeepsList, KeepsWas, IsKept, IsBegun, IsCounted, IsTakenBack, IsRenewed, IsUnwanting, IsAsked, IsFew, by_message, passes_over};
 
 use crate::seen::{is_in, number};
 use crate::slot::{Slot, Was};
@@ -16,7 +16,7 @@ use mu_report::NumberSet;
 pub fn answer(slot: &mut Slot)
     ensures receiver { receiver_of slot.new ≡ answered (receiver_of slot.old) }
     ensures list { KeepsList slot.old slot.new }
-    ensures was { before slot.new ≡ before slot.old }
+    ensures was { KeepsWas slot.old slot.new }
     ensures few { IsFew slot.old → IsFew slot.new }
 {
     slot.pending = false;
@@ -27,7 +27,7 @@ pub fn answer(slot: &mut Slot)
 pub fn drop_by(slot: &mut Slot, cause: Dropped)
     ensures receiver { receiver_of slot.new ≡ dropped cause (receiver_of slot.old) }
     ensures list { KeepsList slot.old slot.new }
-    ensures was { before slot.new ≡ before slot.old }
+    ensures was { KeepsWas slot.old slot.new }
     ensures few { IsFew slot.new }
 {
     slot.standing = Standing::Gone(cause);
@@ -51,6 +51,21 @@ fn is_passed_over(step: Step, heard: bool) -> bool
         Step::Pull(_) => heard,
         _ => false,
     }
+}
+
+pub(crate) fn keep_one(slot: &mut Slot)
+    ensures kept { IsKept slot.old slot.new }
+    ensures few { IsFew slot.old → IsFew slot.new }
+{
+    slot.was = Was {
+        phase: slot.phase,
+        standing: slot.standing,
+        pending: slot.pending,
+        heard: slot.heard,
+        silent: slot.silent,
+        wants: slot.wants,
+        listed: slot.listed,
+    };
 }
 
 pub(crate) fn begin_one(slot: &mut Slot, step: Step)
@@ -81,7 +96,7 @@ fn silent_now(slot: &Slot, step: Step) -> u8
 fn fall_silent(slot: &mut Slot, step: Step)
     ensures receiver { receiver_of slot.new ≡ fell_silent (receiver_of slot.old) step }
     ensures list { KeepsList slot.old slot.new }
-    ensures was { before slot.new ≡ before slot.old }
+    ensures was { KeepsWas slot.old slot.new }
     ensures few { IsFew slot.old → IsFew slot.new }
 {
     match step {
@@ -101,13 +116,6 @@ pub(crate) fn count_one(slot: &mut Slot, step: Step)
     ensures counted { IsCounted step slot.old slot.new }
     ensures few { IsFew slot.new }
 {
-    slot.was = Was {
-        phase: slot.phase,
-        standing: slot.standing,
-        pending: slot.pending,
-        silent: slot.silent,
-        wants: slot.wants,
-    };
     if slot.pending {
         slot.silent = silent_now(slot, step);
         if slot.silent >= 5 {
@@ -122,8 +130,10 @@ pub(crate) fn take_back_one(slot: &mut Slot)
     slot.phase = slot.was.phase;
     slot.standing = slot.was.standing;
     slot.pending = slot.was.pending;
+    slot.heard = slot.was.heard;
     slot.silent = slot.was.silent;
     slot.wants = slot.was.wants;
+    slot.listed = slot.was.listed;
 }
 
 pub(crate) fn renew_one(slot: &mut Slot, step: Step)

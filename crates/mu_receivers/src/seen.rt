@@ -2,12 +2,12 @@
 ghost use Rattle.std.specs.Prelude.{◌≡◌, ◌&&◌, ◌≤◌};
 ghost use Rattle.std.specs.List.{list_any};
 ghost use Rattle.mu_model_client.specs.Sets.{has_some};
-ghost use Rattle.mu_model_client.specs.Client.{step_number, block_total, is_in, is_begun_for, misses_block, misses_chunks, is_pending, stands_active};
-ghost use Rattle.mu_model_client.specs.Going.{least_missed};
-ghost use Rattle.mu_receivers.specs.Receivers.{receiver_of, receivers_of};
+ghost use Rattle.mu_model_client.specs.Client.{step_number, is_in, is_begun_for, misses_chunks, is_pending, stands_active};
+ghost use Rattle.mu_receivers.specs.Receivers.{receiver_of};
+ghost use Rattle.mu_receivers.specs.declared.slot.Slot.{Slot};
 
 use crate::slot::Slot;
-use mu_model_client::{Sending, Standing, Step};
+use mu_model_client::{Standing, Step};
 use mu_report::NumberSet;
 
 /// The step's number in the client's table, 1..11.
@@ -36,7 +36,7 @@ fn has_some(set: &NumberSet) -> bool
     set.first_from(0).is_some()
 }
 
-fn is_active(slot: &Slot) -> bool
+pub(crate) fn is_active(slot: &Slot) -> bool
     ensures { result ≡ stands_active slot.now.standing }
 {
     match slot.standing {
@@ -77,6 +77,13 @@ pub fn is_any_pending(slots: &[Slot]) -> bool
     ensures { result ≡ list_any (λ s. is_pending (receiver_of s)) slots.now }
 {
     slots.iter().any(|slot| slot.pending)
+}
+
+/// Whether a message of the list is still to go.
+pub fn is_any_listed(slots: &[Slot]) -> bool
+    ensures { result ≡ list_any (λ (s : Slot). s.listed) slots.now }
+{
+    slots.iter().any(|slot| slot.listed)
 }
 
 /// Whether the step has somebody to be begun with.

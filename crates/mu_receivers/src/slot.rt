@@ -2,14 +2,16 @@
 use mu_model_client::Standing;
 use mu_report::NumberSet;
 
-/// How a receiver stood before the end of a round was counted.
+/// How a receiver stood before a time event.
 #[derive(Clone, Copy, Debug, PartialEq, Eq)]
 pub struct Was {
     pub phase: u8,
     pub standing: Standing,
     pub pending: bool,
+    pub heard: bool,
     pub silent: u8,
     pub wants: bool,
+    pub listed: bool,
 }
 
 /// A receiver: its row, how it stands, what it misses as the client knows, and what is still to be sent to it.
@@ -71,8 +73,10 @@ impl Default for Slot {
                 phase: 10,
                 standing: Standing::Idle,
                 pending: false,
+                heard: false,
                 silent: 0,
                 wants: false,
+                listed: false,
             },
         }
     }

@@ -1,1 +1,3 @@
 pub mod Named
+mod Wanted
+mod Parts

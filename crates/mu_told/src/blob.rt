@@ -1,5 +1,5 @@
 // Steps that BLOB messages answer, in push.
-ghost use Rattle.std.specs.Prelude.{◌≡◌, ◌≤◌, ◌<◌, length};
+ghost use Rattle.std.specs.Prelude.{◌≡◌, ◌≤◌, ◌<◌, length, IfSome};
 ghost use Rattle.mu_model_client.specs.Sets.{has_some, size_of, named_set, set_of_field};
 ghost use Rattle.mu_model_client.specs.Client.{block_total, chunk_total};
 ghost use Rattle.mu_model_client.specs.Answers.{TransferIs, BlockIs};
@@ -18,13 +18,14 @@ use mu_report::{NumberSet, Report, read_report};
 /// The set below `n` that a report names, if it names one.
 fn named(report: &Report, n: u16) -> Option<NumberSet>
     requires { n ≤ 2048 }
-    ensures { result ≡ named_set n report.now }
+    ensures set { result ≡ named_set n report.now }
+    ensures bound { IfSome result (λ set. length set ≡ n) }
 {
     mu_model_client_laws::laws::named_sets();
     read_report(report, n)
 }
 
-fn chunk_total(sending: &Sending, b: u16) -> u16
+pub(crate) fn chunk_total(sending: &Sending, b: u16) -> u16
     requires range { IsSendable sending.now }
     requires within { b < block_total sending.now }
     ensures total { result ≡ chunk_total sending.now b }
@@ -59,13 +60,13 @@ fn hold_block(slot: &mut Slot, b: u16)
 }
 
 #[tactic(auto, using(crate::proofs::Named::has_is))]
-fn has_some(set: &NumberSet) -> bool
+pub(crate) fn has_some(set: &NumberSet) -> bool
     ensures { result ≡ has_some set.now }
 {
     set.first_from(0).is_some()
 }
 
-fn hold_chunks(slot: &mut Slot, b: u16, chunks: NumberSet)
+pub(crate) fn hold_chunks(slot: &mut Slot, b: u16, chunks: NumberSet)
     ensures { IsTold (with_chunks b chunks) slot.old slot.new }
 {
     let some = has_some(&chunks);
@@ -138,10 +139,17 @@ pub fn on_transfer(
     }
 }
 
-fn chunks_in(sending: &Sending, b: u16, block: u16, size: u16, report: &Report) -> Option<NumberSet>
+pub(crate) fn chunks_in(
+    sending: &Sending,
+    b: u16,
+    block: u16,
+    size: u16,
+    report: &Report,
+) -> Option<NumberSet>
     requires range { IsSendable sending.now }
     requires within { b < block_total sending.now }
-    ensures { result ≡ chunks_in sending.now b block size report.now }
+    ensures set { result ≡ chunks_in sending.now b block size report.now }
+    ensures bound { IfSome result (λ set. length set ≡ chunk_total sending.now b) }
 {
     if block == b && size == sending.chunk {
         named(report, chunk_total(sending, b))

@@ -1,0 +1,5 @@
+mod Lists
+mod Sets
+mod Saying
+mod Stepping
+mod Coming

@@ -1,0 +1,3 @@
+pub mod Sents
+pub mod Rounds
+pub mod After
