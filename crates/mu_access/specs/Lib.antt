@@ -2,3 +2,4 @@ pub mod View
 pub mod Laws
 pub mod Datagram
 pub mod Parts
+pub mod Read

@@ -2,7 +2,7 @@ ghost use Rattle.std.specs.Prelude.{◌<◌, ◌≤◌, length};
 ghost use Rattle.mu_codec.specs.View.{packet_of};
 ghost use Rattle.mu_access.specs.Datagram.{CanTravel};
 
-use crate::{Message, datagram, in_range, read, show, undatagram, write};
+use crate::{Message, canonical, datagram, in_range, read, show, show_octets, undatagram, write};
 use mu_blobmsg::BlobMsg;
 use mu_codec::{Packet, Payload, Refusal, Why, put_octets};
 use mu_distmsg::DistMsg;
@@ -56,6 +56,10 @@ fn messages_of_all_models_are_read_and_written(rt: HostRuntime) {
         };
         assert!(rt; in_range(&message));
         assert_eq!(rt; write(&message).as_slice(), octets);
+        let Ok(again) = canonical(octets) else {
+            continue;
+        };
+        assert_eq!(rt; again.as_slice(), octets);
     }
 }
 
@@ -76,6 +80,9 @@ fn messages_of_all_models_are_shown(rt: HostRuntime) -> Result<(), AllocError> {
             assert_eq!(rt; show(&message, &mut sink), Ok(()));
         }
         assert_eq!(rt; sink.bytes(), line);
+        let mut other = BytesSink::new(rt.alloc(), 40, &[])?;
+        assert_eq!(rt; show_octets(octets, &mut other), Ok(Ok(())));
+        assert_eq!(rt; other.bytes(), line);
     }
     Ok(())
 }
@@ -97,6 +104,7 @@ fn opcodes_in_no_row_are_refused(rt: HostRuntime) {
         ([0x66; 381].as_slice(), refusal(380, Why::Long)),
     ] {
         assert_eq!(rt; read(octets), Err(want), "at {octets:?}");
+        assert!(rt; canonical(octets).is_err(), "at {octets:?}");
     }
 }
 

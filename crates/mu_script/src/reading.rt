@@ -2,7 +2,7 @@ ghost use Rattle.std.specs.Prelude.{◌≡◌, IfOk, IfSome};
 ghost use Rattle.std.specs.Option.{option_map};
 ghost use Rattle.mu_model_script.specs.Lines.{row_of, line_rows, node_row, pair_row, old_row, say_row, deliver_row, time_row, cut_row, tear_row, active_row, phase_row, event_by, line_event};
 ghost use Rattle.mu_model_script.specs.Ranges.{IsInRange};
-ghost use Rattle.mu_script.specs.Cursor.{Gives};
+ghost use Rattle.mu_script.specs.Cursor.{Gives, GivesEvent};
 ghost use Rattle.mu_script.specs.View.{event};
 ghost use Rattle.mu_script.specs.Words.{row};
 
@@ -52,8 +52,8 @@ fn known_word(octets: &[u8]) -> Option<Word>
     }
 }
 
-fn node(mut tokens: Tokens) -> Result<Event, LineFault>
-    ensures { Gives event result (event_by node_row tokens.entry) }
+fn node(mut tokens: Tokens) -> Result<Option<Event>, LineFault>
+    ensures { GivesEvent result (event_by node_row tokens.entry) }
 {
     let addr = tokens.unicast()?;
     let group = tokens.group_or_none()?;
@@ -61,17 +61,17 @@ fn node(mut tokens: Tokens) -> Result<Event, LineFault>
     let version = tokens.version()?;
     let content = tokens.image()?;
     tokens.end()?;
-    Ok(Event::Node {
+    Ok(Some(Event::Node {
         addr,
         group,
         pages,
         version,
         content,
-    })
+    }))
 }
 
-fn pair(mut tokens: Tokens) -> Result<Event, LineFault>
-    ensures { Gives event result (event_by pair_row tokens.entry) }
+fn pair(mut tokens: Tokens) -> Result<Option<Event>, LineFault>
+    ensures { GivesEvent result (event_by pair_row tokens.entry) }
 {
     let addr = tokens.unicast()?;
     let group = tokens.group_or_none()?;
@@ -81,7 +81,7 @@ fn pair(mut tokens: Tokens) -> Result<Event, LineFault>
     let second_version = tokens.version()?;
     let second_content = tokens.image()?;
     tokens.end()?;
-    Ok(Event::Pair {
+    Ok(Some(Event::Pair {
         addr,
         group,
         pages,
@@ -89,11 +89,11 @@ fn pair(mut tokens: Tokens) -> Result<Event, LineFault>
         content,
         second_version,
         second_content,
-    })
+    }))
 }
 
-fn old(mut tokens: Tokens) -> Result<Event, LineFault>
-    ensures { Gives event result (event_by old_row tokens.entry) }
+fn old(mut tokens: Tokens) -> Result<Option<Event>, LineFault>
+    ensures { GivesEvent result (event_by old_row tokens.entry) }
 {
     let addr = tokens.unicast()?;
     let group = tokens.group_or_none()?;
@@ -101,79 +101,79 @@ fn old(mut tokens: Tokens) -> Result<Event, LineFault>
     let version = tokens.version()?;
     let content = tokens.image()?;
     tokens.end()?;
-    Ok(Event::Old {
+    Ok(Some(Event::Old {
         addr,
         group,
         pages,
         version,
         content,
-    })
+    }))
 }
 
-fn say(mut tokens: Tokens) -> Result<Event, LineFault>
-    ensures { Gives event result (event_by say_row tokens.entry) }
+fn say(mut tokens: Tokens) -> Result<Option<Event>, LineFault>
+    ensures { GivesEvent result (event_by say_row tokens.entry) }
 {
     let from = tokens.unicast()?;
     let to = tokens.destination()?;
     let payload = tokens.octets_up_to()?;
     tokens.end()?;
-    Ok(Event::Say { from, to, payload })
+    Ok(Some(Event::Say { from, to, payload }))
 }
 
-fn deliver(mut tokens: Tokens) -> Result<Event, LineFault>
-    ensures { Gives event result (event_by deliver_row tokens.entry) }
+fn deliver(mut tokens: Tokens) -> Result<Option<Event>, LineFault>
+    ensures { GivesEvent result (event_by deliver_row tokens.entry) }
 {
     let packet = tokens.number(0, u32::MAX as u64)? as u32;
     let addr = tokens.unicast()?;
     tokens.end()?;
-    Ok(Event::Deliver { packet, addr })
+    Ok(Some(Event::Deliver { packet, addr }))
 }
 
-fn time(mut tokens: Tokens) -> Result<Event, LineFault>
-    ensures { Gives event result (event_by time_row tokens.entry) }
+fn time(mut tokens: Tokens) -> Result<Option<Event>, LineFault>
+    ensures { GivesEvent result (event_by time_row tokens.entry) }
 {
     let addr = tokens.unicast()?;
     let ms = tokens.number(0, 9_223_372_036_854_775_807)?;
     tokens.end()?;
-    Ok(Event::Time { addr, ms })
+    Ok(Some(Event::Time { addr, ms }))
 }
 
-fn cut(mut tokens: Tokens) -> Result<Event, LineFault>
-    ensures { Gives event result (event_by cut_row tokens.entry) }
+fn cut(mut tokens: Tokens) -> Result<Option<Event>, LineFault>
+    ensures { GivesEvent result (event_by cut_row tokens.entry) }
 {
     let addr = tokens.unicast()?;
     tokens.end()?;
-    Ok(Event::Cut { addr })
+    Ok(Some(Event::Cut { addr }))
 }
 
-fn tear(mut tokens: Tokens) -> Result<Event, LineFault>
-    ensures { Gives event result (event_by tear_row tokens.entry) }
+fn tear(mut tokens: Tokens) -> Result<Option<Event>, LineFault>
+    ensures { GivesEvent result (event_by tear_row tokens.entry) }
 {
     let addr = tokens.unicast()?;
     let n = tokens.number(1, 1000)? as u16;
     let pattern = tokens.pattern()?;
     tokens.end()?;
-    Ok(Event::Tear { addr, n, pattern })
+    Ok(Some(Event::Tear { addr, n, pattern }))
 }
 
-fn active(mut tokens: Tokens) -> Result<Event, LineFault>
-    ensures { Gives event result (event_by active_row tokens.entry) }
+fn active(mut tokens: Tokens) -> Result<Option<Event>, LineFault>
+    ensures { GivesEvent result (event_by active_row tokens.entry) }
 {
     let addr = tokens.unicast()?;
     tokens.end()?;
-    Ok(Event::Active { addr })
+    Ok(Some(Event::Active { addr }))
 }
 
-fn phase(mut tokens: Tokens) -> Result<Event, LineFault>
-    ensures { Gives event result (event_by phase_row tokens.entry) }
+fn phase(mut tokens: Tokens) -> Result<Option<Event>, LineFault>
+    ensures { GivesEvent result (event_by phase_row tokens.entry) }
 {
     let addr = tokens.unicast()?;
     tokens.end()?;
-    Ok(Event::Phase { addr })
+    Ok(Some(Event::Phase { addr }))
 }
 
-fn event_by_word(word: Word, tokens: Tokens) -> Result<Event, LineFault>
-    ensures { Gives event result (event_by (row word) tokens.entry) }
+fn event_by_word(word: Word, tokens: Tokens) -> Result<Option<Event>, LineFault>
+    ensures { GivesEvent result (event_by (row word) tokens.entry) }
 {
     match word {
         Word::Node => node(tokens),
@@ -189,14 +189,9 @@ fn event_by_word(word: Word, tokens: Tokens) -> Result<Event, LineFault>
     }
 }
 
-/// What a line of a script makes happen, without its LF: nothing where it is empty or a comment. Refused are, at the
-/// first place that shows it, a line that is longer than 4,096 octets, one that isn't of a form of the script's lines,
-/// and a number that is out of its range.
-pub fn read_line(line: &[u8]) -> Result<Option<Event>, LineFault>
-    ensures reads { Gives (λ e. option_map event e) result (line_event line.now) }
-    ensures in_range { IfOk result (λ read. IfSome read (λ e. IsInRange (event e))) }
+fn event_read(line: &[u8]) -> Result<Option<Event>, LineFault>
+    ensures { Gives (λ e. option_map event e) result (line_event line.now) }
 {
-    event_is_in_range();
     if line.len() > 4096 {
         return Err(LineFault {
             at: 4096,
@@ -211,6 +206,16 @@ pub fn read_line(line: &[u8]) -> Result<Option<Event>, LineFault>
     let Some(word) = known_word(first.octets) else {
         return Err(first.fault());
     };
-    let event = event_by_word(word, tokens)?;
-    Ok(Some(event))
+    event_by_word(word, tokens)
+}
+
+/// What a line of a script makes happen, without its LF: nothing where it is empty or a comment. Refused are, at the
+/// first place that shows it, a line that is longer than 4,096 octets, one that isn't of a form of the script's lines,
+/// and a number that is out of its range.
+pub fn read_line(line: &[u8]) -> Result<Option<Event>, LineFault>
+    ensures reads { Gives (λ e. option_map event e) result (line_event line.now) }
+    ensures in_range { IfOk result (λ read. IfSome read (λ e. IsInRange (event e))) }
+{
+    event_is_in_range();
+    event_read(line)
 }

@@ -97,10 +97,15 @@ added o n f g x r xs adds = adds.adds o f [] (record { ok = wrote_nothing o; err
 
 -- ---- texts of lists
 
-pub hex_more : (octets : List ℕ) (octet : ℕ) → encode_lower octets ++ encode_lower (octet ∷ []) ≡ encode_lower (octets ++ octet ∷ [])
+pub hex_append : (xs ys : List ℕ) → encode_lower xs ++ encode_lower ys ≡ encode_lower (xs ++ ys)
 unfolding encode_with
-hex_more [] octet = refl
-hex_more (o ∷ octets) octet = ap (λ (t : List ℕ). slice_index lower_digits (o / 16) ∷ slice_index lower_digits (o % 16) ∷ t) (hex_more octets octet)
+hex_append [] ys = refl
+hex_append (x ∷ xs) ys = ap (λ (t : List ℕ). slice_index lower_digits (x / 16) ∷ slice_index lower_digits (x % 16) ∷ t) (hex_append xs ys)
+
+-- where nothing is left
+pub all_before : (before left whole : List ℕ) → whole ≡ before ++ left → length left ≡ 0 → before ≡ whole
+all_before before [] whole cut none = sym (cut ∙ append-nil before)
+all_before before (x ∷ left) whole cut none = absurd (omega (arith, none))
 
 pub take_more : {X : Type 0} (xs : List X) (i : ℕ) (d : X) → i < length xs → take i xs ++ get_or xs i d ∷ [] ≡ take (i + 1) xs
 take_more [] i d lt = absurd (omega arith)

@@ -1,4 +1,4 @@
-ghost use Rattle.std.specs.Prelude.{◌≡◌, ◌<◌, ◌∷◌, [], ◌++◌, OnOk, OnErr, length, map, drop, slice_index_or};
+ghost use Rattle.std.specs.Prelude.{◌≡◌, ◌<◌, ◌≤◌, ◌∷◌, [], ◌++◌, OnOk, OnErr, length, map, drop, slice_index_or};
 ghost use Rattle.std.specs.Fmt.{decimal};
 ghost use Rattle.std.specs.List.{flat_map};
 ghost use Rattle.hex.specs.Hex.{encode_lower};
@@ -53,6 +53,18 @@ pub(crate) fn put_number<K: Sink>(
     put(sink, so_far, buffer.format(number).as_bytes())
 }
 
+// The hexadecimal text of at most 32 octets.
+fn digits<'a>(octets: &[u8], room: &'a mut [u8; 64]) -> &'a [u8]
+    requires { length octets.now ≤ 32 }
+    ensures { result.now ≡ encode_lower octets.now }
+{
+    let digits = &mut room[..2 * octets.len()];
+    if hex::encode_to_slice(octets, digits).is_err() {
+        prove!(false);
+    }
+    digits
+}
+
 pub(crate) fn put_hex<K: Sink>(
     sink: &mut K,
     so_far: Result<(), Failed>,
@@ -60,21 +72,15 @@ pub(crate) fn put_hex<K: Sink>(
 ) -> Result<(), Failed>
     ensures { Adds (K.written sink.old) (K.written sink.new) (K.faults sink.old) (K.faults sink.new) so_far result (encode_lower octets.now) }
 {
+    let mut room = [0; 64];
     let mut done = so_far;
-    for octet in octets {
-        done = put(sink, done, &digits(*octet));
+    let mut left = octets;
+    while !left.is_empty() {
+        let (part, behind) = left.split_at(left.len().min(32));
+        done = put(sink, done, digits(part, &mut room));
+        left = behind;
     }
     done
-}
-
-fn digits(octet: u8) -> [u8; 2]
-    ensures { result ≡ encode_lower (octet ∷ []) }
-{
-    let mut digits = [0; 2];
-    if hex::encode_to_slice([octet], &mut digits).is_err() {
-        prove!(false);
-    }
-    digits
 }
 
 pub(crate) fn put_value<K: Sink>(
