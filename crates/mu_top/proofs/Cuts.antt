@@ -6,7 +6,7 @@ use Rattle.std.proofs.Math.Seq.{take-append-add}
 use Rattle.std.specs.List.{onto_first}
 use Rattle.mu_model_script.specs.Pieces.{pieces, line_feed, without_empty_last, lines_of}
 use Rattle.mu_model_script.specs.Limits.{without_short_last, without_last, lines_in, ended_lines, most_in_line}
-use Rattle.mu_top.specs.Reading.{IsPart}
+use Rattle.mu_input.specs.Reading.{IsPart}
 
 -- there is a first piece
 pub record FirstPiece (octets : List ℕ) : Type 0 where

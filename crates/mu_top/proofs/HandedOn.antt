@@ -6,7 +6,7 @@ use Rattle.mu_model_script.specs.Runs.{Prints, Run}
 use Rattle.mu_outside.specs.Stream.{KeepsTold}
 use Rattle.mu_outside.specs.Gathering.{behind, GoesOn}
 use Rattle.mu_top.specs.Ends.{Doing, Barring, Wearing, Ends, EndsInPart, IsRefused, IsTraceOfSome, IsBeginning}
-use Rattle.mu_top.specs.Reading.{WhereTold}
+use Rattle.mu_input.specs.Reading.{WhereTold}
 use Rattle.mu_top.specs.declared.status.Status.{Status}
 use Rattle.mu_top.specs.declared.status.Status.TheVariants.{Done, Usage, SourceFault, SinkFault, Refused, NoMemory, Worn, TooLong}
 use Rattle.mu_top.proofs.Told.{Both, both_map, both_kept, where_told}

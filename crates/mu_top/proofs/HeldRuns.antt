@@ -7,7 +7,7 @@ use Rattle.mu_model_world.specs.Run.{Step, Bars, Wears}
 use Rattle.mu_world.specs.Moved.{Held, new_held}
 use Rattle.mu_top.specs.Ends.{EndsWith, Ends, IsRefused, IsTraceOfSome}
 use Rattle.mu_top.specs.HeldRun.{HeldStep, HeldBars, HeldWears}
-use Rattle.mu_top.specs.Reading.{WhereTold}
+use Rattle.mu_input.specs.Reading.{WhereTold}
 use Rattle.mu_top.specs.declared.status.Status.{Status}
 use Rattle.mu_top.specs.declared.status.Status.TheVariants.{Done, Usage, SourceFault, SinkFault, Refused, NoMemory, Worn, TooLong}
 use Rattle.mu_top.proofs.Told.{where_told}

@@ -4,7 +4,8 @@ use Rattle.std.specs.Prelude.{codes}
 use Rattle.std.specs.List.{concat}
 use Rattle.std.proofs.lemmas.List.{take-append-drop}
 use Rattle.mu_top.specs.Images.{ImageTold, ReadAs, image_printed, parts_text, read_printed}
-use Rattle.mu_top.specs.Reading.{WhereTold, WroteSome}
+use Rattle.mu_input.specs.Reading.{WhereTold}
+use Rattle.mu_top.specs.Reading.{WroteSome}
 use Rattle.mu_top.specs.declared.image.ImageRead.{ImageRead}
 use Rattle.mu_top.specs.declared.image.ImageRead.TheVariants.{Whole, Empty, TooLarge}
 use Rattle.mu_top.specs.declared.status.Status.TheVariants.{SinkFault}

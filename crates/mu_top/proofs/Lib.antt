@@ -5,6 +5,7 @@ pub mod Cuts
 pub mod Places
 pub mod Working
 pub mod PayloadLines
+mod Printing
 mod HeldRuns
 mod ImageTexts
 mod Refusals

@@ -6,7 +6,8 @@ use Rattle.std.proofs.Math.Seq.{take-append-add}
 use Rattle.std.specs.Prelude.{IfSome}
 use Rattle.std.specs.Result.{OnOk, OnErr}
 use Rattle.mu_outside.specs.Stream.{WriteTakes, KeepsTold}
-use Rattle.mu_top.specs.Reading.{WhereTold, Wrote, WroteSome}
+use Rattle.mu_input.specs.Reading.{WhereTold}
+use Rattle.mu_top.specs.Reading.{Wrote, WroteSome}
 
 -- before any call
 pub told_self : (o : Option (List ℕ)) (P : List ℕ → List ℕ → Type 0) → ((v : List ℕ) → P v v) → WhereTold o o P

@@ -9,10 +9,11 @@ use Rattle.mu_model_script.specs.Runs.{Run, Prints, Refuses}
 use Rattle.mu_model_script.specs.Texts.{refused_text}
 use Rattle.mu_top.specs.Ends.{Doing, Barring, Wearing, EndsWith, Ends, EndsInPart, Completes, EndsAsItMust, NoneRefused, NoneWears, NoneDone, OrNoMemory, Told, IsWhole, IsRefused, IsWornOut, IsTooLong, IsInPart, IsTraceOfSome, IsBeginning}
 use Rattle.mu_top.specs.LineDone.{StopsLine, EndsAt}
-use Rattle.mu_top.specs.Reading.{IsPart, Reader, to_come, WhereTold, IsAtRest, NextLine, GivesLine, Took, Wrote, WroteSome}
-use Rattle.mu_top.specs.declared.reader.Next.{Next}
-use Rattle.mu_top.specs.declared.reader.Next.TheVariants.{Line, Last, End}
-use Rattle.mu_top.specs.declared.reader.ReadStop.TheVariants as Stop
+use Rattle.mu_input.specs.Reading.{IsPart, Reader, to_come, WhereTold, IsAtRest, NextLine, GivesLine, Took}
+use Rattle.mu_top.specs.Reading.{Wrote, WroteSome}
+use Rattle.mu_input.specs.declared.reader.Next.{Next}
+use Rattle.mu_input.specs.declared.reader.Next.TheVariants.{Line, Last, End}
+use Rattle.mu_input.specs.declared.reader.ReadStop.TheVariants as Stop
 use Rattle.mu_top.specs.declared.status.Status.TheVariants.{Done, Usage, SourceFault, SinkFault, Refused as IsRefusedStatus, NoMemory, Worn, TooLong}
 use Rattle.mu_top.specs.declared.status.Status.{Status}
 use Rattle.mu_top.specs.declared.work.LineStop.{LineStop}

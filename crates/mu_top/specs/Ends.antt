@@ -4,7 +4,7 @@ use Rattle.std.specs.Prelude.{◌≡◌, ◌⊎◌, ℕ, Option, List, [], ◌�
 use Rattle.mu_model_script.specs.Limits.{first_lines, ended_lines, Passes}
 use Rattle.mu_model_script.specs.Runs.{Run, Prints, Refuses}
 use Rattle.mu_model_script.specs.Texts.{refused_text}
-use Rattle.mu_top.specs.Reading.{WhereTold}
+use Rattle.mu_input.specs.Reading.{WhereTold}
 use Rattle.mu_top.specs.Status.{number_of}
 use Rattle.mu_top.specs.declared.status.Status.{Status}
 use Rattle.mu_top.specs.declared.status.Status.TheVariants.{Done, SourceFault, SinkFault, Refused, NoMemory, Worn, TooLong}

@@ -6,7 +6,7 @@ use Rattle.mu_model_image.specs.Meta.{meta_octets, firmware_id, own_company, ima
 use Rattle.mu_model_image.specs.declared.Meta.{Meta}
 use Rattle.mu_model_script.specs.Texts.{text_line, refused_text}
 use Rattle.mu_top.specs.Ends.{ByNumber}
-use Rattle.mu_top.specs.Reading.{WhereTold}
+use Rattle.mu_input.specs.Reading.{WhereTold}
 use Rattle.mu_top.specs.declared.image.ImageRead.{ImageRead}
 use Rattle.mu_top.specs.declared.image.ImageRead.TheVariants.{Whole, Empty, TooLarge}
 use Rattle.mu_top.specs.declared.status.Status.{Status}

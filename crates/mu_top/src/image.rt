@@ -4,7 +4,8 @@ ghost use Rattle.hex.specs.Hex.{encode_lower};
 ghost use Rattle.mu_image.specs.Digests.{HasTaken};
 ghost use Rattle.mu_model_flash.specs.Cause.{HasCause, Rose};
 ghost use Rattle.mu_top.specs.Images.{ImageTold, IsStatusOf, ReadAs, image_refusal, meta_text, parts_text, read_printed};
-ghost use Rattle.mu_top.specs.Reading.{WhereTold, Wrote, WroteSome};
+ghost use Rattle.mu_input.specs.Reading.{WhereTold};
+ghost use Rattle.mu_top.specs.Reading.{Wrote, WroteSome};
 
 use crate::status::Status;
 use crate::writing::{write_pieces, write_refusal};

@@ -8,7 +8,6 @@ mod line;
 mod node_tests;
 mod payload;
 mod payloads;
-mod reader;
 mod replay;
 mod status;
 #[cfg(test)]

@@ -1,11 +1,12 @@
 // A line that holds a payload.
 ghost use Rattle.std.specs.Prelude.{◌≡◌, ◌≤◌, length, None, Some, Ok, Err, codes, if◌then◌else◌};
 ghost use Rattle.hex.specs.Hex.{decode_of, is_hex_digit};
-ghost use Rattle.mu_top.specs.PayloadDone.{GivesOctets, GivesMessage};
-ghost use Rattle.mu_top.specs.Payloads.{bad_hex, first_bad_digit, payload_line, why_word};
+ghost use Rattle.mu_model_script.specs.Lines.{is_silent};
+ghost use Rattle.mu_top.specs.PayloadDone.{GivesOctets, Stopped};
+ghost use Rattle.mu_top.specs.Payloads.{bad_hex, first_bad_digit, why_word};
 
 use crate::work::LineStop;
-use mu_access::{Message, read};
+use mu_codec::Refusal;
 use mu_model_wire::Why;
 
 fn is_digit(octet: u8) -> bool
@@ -43,7 +44,7 @@ fn why_word(why: Why) -> &'static [u8]
 }
 
 /// The octets of a text of hexadecimal, or the place at which it is wrong.
-fn octets_of<'a>(text: &[u8], room: &'a mut [u8; 2048]) -> Result<&'a [u8], u16>
+pub(crate) fn octets_of<'a>(text: &[u8], room: &'a mut [u8; 2048]) -> Result<&'a [u8], u16>
     requires { length text.now ≤ 4096 }
     ensures { GivesOctets result text.now }
 {
@@ -58,29 +59,19 @@ fn octets_of<'a>(text: &[u8], room: &'a mut [u8; 2048]) -> Result<&'a [u8], u16>
     Ok(octets)
 }
 
-/// The message of a line, None where it says nothing.
-pub(crate) fn read_payload<'a>(
-    line: &[u8],
-    room: &'a mut [u8; 2048],
-) -> Result<Option<Message<'a>>, LineStop>
-    requires { length line.now ≤ 4096 }
-    ensures { GivesMessage result (payload_line line.now) }
+/// Whether a line says nothing: it is empty or a comment.
+pub(crate) fn is_silent(line: &[u8]) -> bool
+    ensures { result ≡ is_silent line.now }
 {
-    if line.is_empty() || line[0] == b'#' {
-        return Ok(None);
-    }
-    let octets = match octets_of(line, room) {
-        Ok(octets) => octets,
-        Err(place) => return Err(LineStop::Refused {
-            place,
-            word: b"hex",
-        }),
-    };
-    match read(octets) {
-        Ok(message) => Ok(Some(message)),
-        Err(refusal) => Err(LineStop::Refused {
-            place: refusal.at,
-            word: why_word(refusal.why),
-        }),
+    line.is_empty() || line[0] == b'#'
+}
+
+/// Why a payload is refused, as a line is.
+pub(crate) fn refused(refusal: Refusal) -> LineStop
+    ensures { Stopped result refusal }
+{
+    LineStop::Refused {
+        place: refusal.at,
+        word: why_word(refusal.why),
     }
 }

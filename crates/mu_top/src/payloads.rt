@@ -1,19 +1,21 @@
 // Printing payloads.
-ghost use Rattle.std.specs.Prelude.{◌≡◌, ◌≢◌, ◌≤◌, ◌++◌, ◌∷◌, [], length, OnOk, OnErr};
+ghost use Rattle.std.specs.Prelude.{◌≡◌, ◌≢◌, ◌≤◌, ◌++◌, ◌∷◌, [], length, IfErr, OnOk, OnErr};
 ghost use Rattle.hex.specs.Hex.{encode_lower};
 ghost use Rattle.mu_model_script.specs.Pieces.{line_feed};
 ghost use Rattle.mu_top.specs.Reading.{Wrote, WroteSome};
-ghost use Rattle.mu_access.specs.View.{InRange, view};
+ghost use Rattle.mu_model_wire.specs.Reading.{message_at};
+ghost use Rattle.mu_model_wire.specs.Table.{rows};
 ghost use Rattle.mu_model_flash.specs.Cause.{HasCause, Rose};
 ghost use Rattle.mu_model_script.specs.Limits.{most_octets};
 ghost use Rattle.mu_top.specs.Ends.{Completes, Ends};
-ghost use Rattle.mu_top.specs.Payloads.{BarsPayload, DoesPayload, PayloadsEnd, WearsPayload, printed};
+ghost use Rattle.mu_top.specs.PayloadDone.{PrintsRead};
+ghost use Rattle.mu_top.specs.Payloads.{BarsPayload, DoesPayload, PayloadsEnd, WearsPayload};
 
-use crate::payload::read_payload;
+use crate::payload::{is_silent, octets_of, refused};
 use crate::status::Status;
 use crate::work::{LineStop, LineWork, run};
 use crate::writing::write_pieces;
-use mu_access::{Message, show, write};
+use mu_access::{canonical, show_octets};
 use mu_outside::{Failed, Sink, Source};
 
 /// As many lines as octets: no limit beside that on octets.
@@ -52,29 +54,55 @@ impl LineWork for PayloadText {
     ghost too_long = { λ state line long. rw (lt-ltb 4096 (length line) long) refl };
 
     fn do_line<K: Sink>(&mut self, line: &[u8], sink: &mut K) -> Result<(), LineStop> {
+        if is_silent(line) {
+            return Ok(());
+        }
         let mut room = [0; 2048];
-        let message = match read_payload(line, &mut room) {
-            Ok(Some(message)) => message,
-            Ok(None) => return Ok(()),
-            Err(stop) => return Err(stop),
-        };
-        match print(*self, &message, sink) {
-            Ok(()) => Ok(()),
-            Err(_) => Err(LineStop::Sink),
+        match octets_of(line, &mut room) {
+            Ok(octets) => print(*self, octets, sink),
+            Err(place) => Err(LineStop::Refused {
+                place,
+                word: b"hex",
+            }),
         }
     }
 }
 
-/// Prints a message.
-fn print<K: Sink>(text: PayloadText, message: &Message, sink: &mut K) -> Result<(), Failed>
-    requires { InRange message.now }
-    ensures ok { OnOk result (Wrote (K.written sink.old) (K.written sink.new) (printed text (view message.now))) }
-    ensures err { OnErr result (WroteSome (K.written sink.old) (K.written sink.new) (printed text (view message.now))) }
-    ensures cause { HasCause (K.faults sink.old) (K.faults sink.new) result }
+/// Prints the message that the octets spell.
+fn print<K: Sink>(text: PayloadText, octets: &[u8], sink: &mut K) -> Result<(), LineStop>
+    ensures prints { PrintsRead text (message_at rows octets.now) (K.written sink.old) (K.written sink.new) result }
+    ensures failed { IfErr result (λ stop. stop ≡ LineStop.Sink → Rose (K.faults sink.old) (K.faults sink.new)) }
+    ensures later { K.faults sink.old ≤ K.faults sink.new }
 {
     match text {
-        PayloadText::Canonical => write_octets(sink, write(message).as_slice()),
-        PayloadText::Shown => show(message, sink),
+        PayloadText::Canonical => print_canonical(octets, sink),
+        PayloadText::Shown => print_shown(octets, sink),
+    }
+}
+
+fn print_canonical<K: Sink>(octets: &[u8], sink: &mut K) -> Result<(), LineStop>
+    ensures prints { PrintsRead PayloadText.Canonical (message_at rows octets.now) (K.written sink.old) (K.written sink.new) result }
+    ensures failed { IfErr result (λ stop. stop ≡ LineStop.Sink → Rose (K.faults sink.old) (K.faults sink.new)) }
+    ensures later { K.faults sink.old ≤ K.faults sink.new }
+{
+    match canonical(octets) {
+        Ok(payload) => match write_octets(sink, payload.as_slice()) {
+            Ok(()) => Ok(()),
+            Err(_) => Err(LineStop::Sink),
+        },
+        Err(refusal) => Err(refused(refusal)),
+    }
+}
+
+fn print_shown<K: Sink>(octets: &[u8], sink: &mut K) -> Result<(), LineStop>
+    ensures prints { PrintsRead PayloadText.Shown (message_at rows octets.now) (K.written sink.old) (K.written sink.new) result }
+    ensures failed { IfErr result (λ stop. stop ≡ LineStop.Sink → Rose (K.faults sink.old) (K.faults sink.new)) }
+    ensures later { K.faults sink.old ≤ K.faults sink.new }
+{
+    match show_octets(octets, sink) {
+        Ok(Ok(())) => Ok(()),
+        Ok(Err(_)) => Err(LineStop::Sink),
+        Err(refusal) => Err(refused(refusal)),
     }
 }
 

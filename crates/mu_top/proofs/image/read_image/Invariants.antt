@@ -1,6 +1,6 @@
 use Rattle.std.proofs.Common.{◌+◌, ◌-◌, ◌≡◌, ◌≤◌, ◌++◌, List, ℕ, length}
 use Rattle.mu_image.specs.Digests.{HasTaken}
-use Rattle.mu_top.specs.Reading.{WhereTold}
+use Rattle.mu_input.specs.Reading.{WhereTold}
 use Rattle.mu_top.proofs.image.read_image.Given as goal
 
 abbrev pub invariant-loop-size : goal.invariant-loop-size

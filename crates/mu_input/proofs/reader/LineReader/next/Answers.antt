@@ -1,6 +1,6 @@
 use Rattle.std.proofs.Common.{refl, arith}
-use Rattle.mu_top.proofs.Told.{told_self}
-use Rattle.mu_top.proofs.reader.LineReader.next.Goals as goal
+use Rattle.mu_input.proofs.Parts.{told_self}
+use Rattle.mu_input.proofs.reader.LineReader.next.Goals as goal
 
 pub loop-octet-init : goal.loop-octet-init
 loop-octet-init g c =

@@ -1,8 +1,8 @@
 use Rattle.std.proofs.Common.{◌≡◌, ◌-◌, length, ap, arith, length-drop, length-take}
 use Rattle.std.proofs.lemmas.Bool.{ltb-true, lt-ltb}
 use Rattle.std.specs.Prelude.{slice_range}
-use Rattle.mu_top.specs.Reading.{Reader}
-use Rattle.mu_top.proofs.reader.LineReader.has_next.Goals as goal
+use Rattle.mu_input.specs.Reading.{Reader}
+use Rattle.mu_input.proofs.reader.LineReader.has_next.Goals as goal
 
 pub returns : goal.returns
 returns c =

@@ -1,6 +1,6 @@
 use Rattle.std.proofs.Common.{◌-◌, ◌≤◌, length}
-use Rattle.mu_top.specs.Reading.{WhereTold, Took, IsPart}
-use Rattle.mu_top.proofs.reader.LineReader.next.Given as goal
+use Rattle.mu_input.specs.Reading.{WhereTold, Took, IsPart}
+use Rattle.mu_input.proofs.reader.LineReader.next.Given as goal
 
 abbrev pub invariant-loop-octet : goal.invariant-loop-octet
 invariant-loop-octet g l = record {

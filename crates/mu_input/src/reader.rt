@@ -1,9 +1,10 @@
 // An input line by line.
-ghost use Rattle.std.specs.Prelude.{◌≡◌, ◌≢◌, ◌↔◌, ◌+◌, ◌≤◌, ◌<◌, ◌^◌, IsTrue, MatchBool, IsErrOf, IfOk, IfSome, OnOk, OnErr, [], ◌∷◌, ◌++◌, length};
+ghost use Rattle.std.specs.Prelude.{◌≡◌, ◌≢◌, ◌↔◌, ◌+◌, ◌≤◌, ◌<◌, ◌^◌, IsTrue, MatchBool, IsErrOf, IfOk, IfSome, OnOk, OnErr, [], ◌∷◌, ◌++◌, length, take};
 ghost use Rattle.mu_model_flash.specs.Cause.{HasCause, Rose};
-ghost use Rattle.mu_top.specs.Reading.{IsAtRest, to_come, NextOctet, NextLine, WhereTold};
+ghost use Rattle.mu_input.specs.Reading.{IsAtRest, IsPart, to_come, NextOctet, NextLine, TookPart, WhereTold};
 
 use arrayvec::ArrayVec;
+use memchr::memchr;
 use mu_outside::{Failed, Source};
 use std::marker::Model;
 
@@ -18,7 +19,7 @@ const MOST_IN_LINE: usize = 4096;
 
 /// Why no further line came.
 #[derive(Clone, Copy, Debug, PartialEq, Eq)]
-pub(crate) enum ReadStop {
+pub enum ReadStop {
     /// The source failed.
     Source,
     /// There are more octets than an input may have.
@@ -29,7 +30,7 @@ pub(crate) enum ReadStop {
 
 /// What came next of an input.
 #[derive(Clone, Copy, Debug, PartialEq, Eq)]
-pub(crate) enum Next {
+pub enum Next {
     /// A line that LF ends.
     Line,
     /// The last line, which lacks its LF.
@@ -40,7 +41,7 @@ pub(crate) enum Next {
 
 /// Reads an input in pieces, and gives its lines. It holds one line and a piece, and takes no memory.
 #[derive(Drop)]
-pub(crate) struct LineReader {
+pub struct LineReader {
     piece: [u8; PIECE],
     at: usize,
     end: usize,
@@ -50,7 +51,7 @@ pub(crate) struct LineReader {
 
 impl Model for LineReader {
     ghost use Rattle.std.specs.Prelude.{◌≡◌, ◌≤◌, ℕ, length, slice_range};
-    ghost use Rattle.mu_top.specs.Reading.{Reader};
+    ghost use Rattle.mu_input.specs.Reading.{Reader};
 
     ghost Value = { Reader };
 
@@ -61,7 +62,7 @@ impl Model for LineReader {
 
 impl LineReader {
     /// A reader that has read nothing yet.
-    pub(crate) fn new() -> Self
+    pub fn new() -> Self
         ensures { result ≡ record { ahead = []; given = 0; line = [] } }
     {
         LineReader {
@@ -74,7 +75,7 @@ impl LineReader {
     }
 
     /// The line that came last, without its LF.
-    pub(crate) fn line(&self) -> &[u8]
+    pub fn line(&self) -> &[u8]
         ensures { result.now ≡ self.now.line }
     {
         self.line.as_slice()
@@ -105,10 +106,16 @@ impl LineReader {
     }
 
     /// Whether a whole line is ahead, so that the next one is there without a read.
-    pub(crate) fn has_line(&self) -> bool {
+    pub fn has_line(&self) -> bool {
+        memchr(b'\n', self.ahead()).is_some()
+    }
+
+    fn ahead(&self) -> &[u8]
+        ensures { result.now ≡ self.now.ahead }
+    {
         match self.piece.get(self.at..self.end) {
-            Some(ahead) => ahead.contains(&b'\n'),
-            None => false,
+            Some(ahead) => ahead,
+            None => &[],
         }
     }
 
@@ -154,6 +161,34 @@ impl LineReader {
         self.line.clear();
     }
 
+    /// How many of the octets ahead go to the line at once: those before the next LF, where the line and the input have room for them.
+    fn part_ahead(&self) -> usize
+        requires { length self.now.line ≤ 4096 }
+        ensures part { IsPart (take result self.now.ahead) }
+        ensures within { result ≤ length self.now.ahead }
+        ensures short { length self.now.line + result ≤ 4096 }
+        ensures given { self.now.given + result ≤ 16777216 }
+    {
+        let room = (MOST_IN_LINE - self.line.len()).min((MOST_OCTETS - self.given) as usize);
+        let ahead = self.ahead();
+        let ahead = &ahead[..ahead.len().min(room)];
+        match memchr(b'\n', ahead) {
+            Some(count) => count,
+            None => ahead.len(),
+        }
+    }
+
+    /// Adds to the line the octets ahead that stand before the next LF, where there is room for them.
+    fn take_part(&mut self)
+        requires { length self.old.line ≤ 4096 }
+        ensures { TookPart self.old self.new }
+    {
+        for _ in 0..self.part_ahead() {
+            let octet = self.take();
+            self.push(octet);
+        }
+    }
+
     /// Whether the line has as many octets as a line may have.
     fn is_full(&self) -> bool
         ensures { IsTrue result ↔ (length self.now.line ≡ 4096) }
@@ -182,7 +217,7 @@ impl LineReader {
     }
 
     /// Whether the source has another octet.
-    pub(crate) fn has_more<S: Source>(&mut self, source: &mut S) -> Result<bool, Failed>
+    pub fn has_more<S: Source>(&mut self, source: &mut S) -> Result<bool, Failed>
         ensures rest { WhereTold (S.left source.old) (S.left source.new) (λ before after. IsAtRest self.old self.new before after) }
         ensures more { IfOk result (λ more. MatchBool more (0 < length self.new.ahead) (WhereTold (S.left source.old) (S.left source.new) (λ before after. to_come self.new after ≡ []))) }
         ensures empty { OnErr result (self.new.ahead ≡ []) }
@@ -193,7 +228,7 @@ impl LineReader {
     }
 
     /// Reads the next line.
-    pub(crate) fn next<S: Source>(&mut self, source: &mut S) -> Result<Next, ReadStop>
+    pub fn next<S: Source>(&mut self, source: &mut S) -> Result<Next, ReadStop>
         ensures short { length self.new.line ≤ 4096 }
         ensures next { WhereTold (S.left source.old) (S.left source.new) (λ before after. NextLine self.old self.new before after result) }
         ensures cause { IsErrOf result ReadStop.Source → Rose (S.faults source.old) (S.faults source.new) }
@@ -201,6 +236,7 @@ impl LineReader {
     {
         self.clear();
         loop {
+            self.take_part();
             let octet = match self.octet(source) {
                 Ok(Some(octet)) => octet,
                 Ok(None) => return Ok(self.last()),

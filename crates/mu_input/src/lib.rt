@@ -1,0 +1,6 @@
+//! An input line by line.
+#![tactic(auto)]
+
+mod reader;
+
+pub use reader::{LineReader, Next, ReadStop};
