@@ -265,7 +265,7 @@ row_foreign opcode (Some fs) s h at os place e = absurd (refused_opcode at os _ 
 lacks_by : (long : Bool) (bytes : List ℕ) (at : ℕ) → read_by long bytes ≡ refuse at Short → LacksNear bytes at
 lacks_by true bytes at e = absurd (let no : Long ≡ Short = ap why_of e in cc)
 lacks_by false bytes at e = elim (bind_err (opcode_at (left_at 0 bytes)) (λ opcode. row_at (fields_of rows opcode.0) opcode.0 opcode.1) (record { at = at; why = Short }) e) [
-  | inl h ↦ let b = refused_short 0 bytes _ at (opcode_told 0 bytes) h in record { there = b.0; near = b.1 }
+  | inl h ↦ let b = refused_short 0 bytes _ at (opcode_told 0 bytes) h in let there = b.0 in let near = b.1 in record { there = omega (arith, there); near = omega (arith, near) }
   | inr h ↦
       let n = as_many opcode_at 0 bytes h.0.0 h.0.1 (opcode_local.done 0 bytes h.0.0 h.0.1 h.1) in
       let b = row_lacks h.0.0 (fields_of rows h.0.0) (λ fs. found_small rows h.0.0 fs refl) (λ fs. found_narrow rows h.0.0 fs refl) h.0.1.at h.0.1.octets at h.2 in
