@@ -38,6 +38,7 @@ settles_in one s = record {
 }
 
 pub a_script_completes : OneNode → IsSettled → PushScriptsComplete → AScriptCompletes
+unfolding settles_in
 a_script_completes one s complete =
     let settles = settles_in one s in
     let done = complete line scene s.next refl settles in
