@@ -19,7 +19,8 @@ use mu_image::{Fwid, Meta};
 // The index of no image.
 const NO_INDEX: u16 = 0xFFFF;
 
-fn has_id(meta: &Meta, fwid: &[u8]) -> bool
+/// Whether an image of these metadata has this Firmware ID.
+pub fn has_id(meta: &Meta, fwid: &[u8]) -> bool
     ensures { result ≡ has_id fwid.now meta.now }
 {
     let own = own_id(meta);

@@ -17,7 +17,7 @@ pub use distribution::{
 };
 pub use firmware::{
     all_firmware_status, firmware_delete, firmware_delete_all, firmware_get, firmware_get_by_index,
-    firmware_status,
+    firmware_status, has_id,
 };
 pub use looks::{DistLook, UploadLook, upload_phase};
 pub use mu_distributor_kept::{ReceiverRow, Rows, UploadPhase};

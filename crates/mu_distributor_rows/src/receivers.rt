@@ -1,5 +1,5 @@
 // Receivers: a function for each request.
-ghost use Rattle.std.specs.Prelude.{◌≡◌, ◌<◌, ◌≤◌, ◌*◌, ◌/◌, true, false, length, map, OnErr};
+ghost use Rattle.std.specs.Prelude.{◌≡◌, ◌<◌, ◌≤◌, ◌*◌, ◌/◌, true, false, length, map, IfErr, OnErr};
 ghost use Rattle.mu_model_distributor.specs.DistState.{DistState};
 ghost use Rattle.mu_model_distributor.specs.Receivers.{added, new_receiver, receivers_add, receivers_delete_all, receivers_list, receivers_status, rounded, is_idle};
 ghost use Rattle.mu_distributor_kept.specs.Views.{row_receiver, row_receivers};
@@ -60,6 +60,7 @@ fn add(rows: &mut Rows, entries: &[(u16, u8)]) -> bool
 /// Firmware Distribution Receivers Add: each new address is added, and one that is there is passed over. Answers whether what is kept
 /// changes, or the status that refuses: 7 while a distribution isn't Idle, 1 where more than 128 would stand.
 pub fn receivers_add(rows: &mut Rows, phase: DistPhase, entries: &[(u16, u8)]) -> Result<bool, u8>
+    ensures known { IfErr result (λ status. status ≤ 13) }
     ensures step { (s : DistState) → AreRowsOf rows.old.items s → s.durable.phase ≡ phase → receivers_add s (entries_of entries.now) ≡ rows_stepped s rows.new.items result }
     ensures due { (s : DistState) → AreRowsOf rows.old.items s → IsDueOf result s (with_rows s rows.new.items) }
     ensures refused { OnErr result (rows.new.items ≡ rows.old.items) }
@@ -77,6 +78,7 @@ pub fn receivers_add(rows: &mut Rows, phase: DistPhase, entries: &[(u16, u8)]) -
 
 /// Firmware Distribution Receivers Delete All. Answers whether what is kept changes, or 7 while a distribution isn't Idle.
 pub fn receivers_delete_all(rows: &mut Rows, phase: DistPhase) -> Result<bool, u8>
+    ensures known { IfErr result (λ status. status ≤ 13) }
     ensures step { (s : DistState) → AreRowsOf rows.old.items s → s.durable.phase ≡ phase → receivers_delete_all s ≡ rows_stepped s rows.new.items result }
     ensures due { (s : DistState) → AreRowsOf rows.old.items s → IsDueOf result s (with_rows s rows.new.items) }
     ensures refused { OnErr result (rows.new.items ≡ rows.old.items) }

@@ -166,6 +166,7 @@ fn start_at_rest<'a>(look: DistLook<'a>, asked: UploadStart, phase: UploadPhase)
 /// metadata and ID aren't this project's, a stored image, an upload that is resumed, 1 where there is no room, a new job.
 pub fn upload_start<'a>(look: DistLook<'a>, asked: UploadStart) -> UploadStep
     ensures known { IsKnownUpload result }
+    ensures decided { result ≡ upload_started (seen look.entry) (upload_start_of asked.entry) }
     ensures step { (s : DistState) → LooksAs look.entry s → upload_start s (upload_start_of asked.entry) (run_upload s) ≡ upload_stepped s (upload_start_of asked.entry) result }
 {
     start(look, asked)

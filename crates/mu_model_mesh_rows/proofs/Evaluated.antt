@@ -130,7 +130,7 @@ abbrev done_if : (m : Mesh) (event : Event) (past : Bool) → is_past m event �
 done_if m event true e = None
 done_if m event false e = done_add m event e (moves m event)
 
-abbrev done : (m : Mesh) (judged : Judged) → Done m judged
+abbrev pub done : (m : Mesh) (judged : Judged) → Done m judged
 done m Silent = Some ([], m, (refl, refl))
 done m (Refused place word) = None
 done m (Sound event) = done_if m event (is_past m event) refl
@@ -148,7 +148,7 @@ abbrev run_by : (line : List ℕ) (script : List (List ℕ)) (m : Mesh) → ((mi
 run_by line script m rest None = None
 run_by line script m rest (Some x) = run_add line script m x (rest x.1)
 
-abbrev run : (script : List (List ℕ)) (m : Mesh) → Ran script m
+abbrev pub run : (script : List (List ℕ)) (m : Mesh) → Ran script m
 run [] m = Some ([], m, (refl, refl))
 run (line ∷ script) m = run_by line script m (λ mid. run script mid) (done m (mesh_judged m line))
 
@@ -158,7 +158,7 @@ abbrev IsThere : {X : Type 0} → Option X → Type 0
 IsThere None = ⊥
 IsThere (Some x) = Unit {0}
 
-abbrev there : {X : Type 0} (o : Option X) → IsThere o → X
+abbrev pub there : {X : Type 0} (o : Option X) → IsThere o → X
 there None t = absurd t
 there (Some x) t = x
 

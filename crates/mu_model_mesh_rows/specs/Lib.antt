@@ -5,3 +5,5 @@ pub mod Tables
 pub mod Limits
 pub mod Plans
 pub mod Tears
+pub mod Successes
+pub mod Settled

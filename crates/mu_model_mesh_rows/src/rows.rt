@@ -2,6 +2,7 @@
 
 ghost use Rattle.mu_model_mesh_rows.specs.Limits.{EachLimit};
 ghost use Rattle.mu_model_mesh_rows.specs.Plans.{PlansHaveTheirFields};
+ghost use Rattle.mu_model_mesh_rows.specs.Settled.{IsSettled};
 ghost use Rattle.mu_model_mesh_rows.specs.Tables.{EachRefusal, EachScript};
 ghost use Rattle.mu_model_mesh_rows.specs.Tears.{DistributorTearsStay, NodeTearsStay};
 
@@ -14,6 +15,11 @@ pub fn scripts()
 pub fn refusals()
     ensures scripts { EachRefusal }
     ensures limits { EachLimit }
+{}
+
+/// A script of a node, an updater and a distributor, of which a `settle` of ten turns is done.
+pub fn settles()
+    ensures { IsSettled }
 {}
 
 /// A plan has exactly its line's fields, and its content's size.

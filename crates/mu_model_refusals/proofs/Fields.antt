@@ -164,7 +164,7 @@ narrow _ = true
 widths : (k : ℕ) → is_narrow k ≡ true → (0 < k) × (k ≤ 5)
 widths k e = let h = and_parts (nat_lt 0 k) (nat_le k 5) e in (ltb-true 0 k h.0, leb-true k 5 h.1)
 
-number_local : (k least most : ℕ) → 0 < k → k ≤ 5 → IsLocal (number_at k least most)
+pub number_local : (k least most : ℕ) → 0 < k → k ≤ 5 → IsLocal (number_at k least most)
 number_local k least most some few = tested_local k (within least most) (λ n. n) some few
 
 pub field_local : (f : Field) → narrow f ≡ true → IsLocal (field_at f)

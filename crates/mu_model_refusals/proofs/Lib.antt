@@ -5,3 +5,4 @@ pub mod Begins
 pub mod Longs
 pub mod Fixed
 pub mod Lists
+pub mod Shorts

@@ -2,9 +2,9 @@
 use Rattle.std.specs.Prelude.{◌≡◌, ◌≢◌, ◌⊎◌, ℕ, ◌+◌, ◌<◌, ◌≤◌, Bool, true, false, ◌&&◌, List, ◌++◌, length, take, Option, Some, None, Ok, Err, IsTrue}
 use Rattle.mu_model_wire.specs.declared.Refusal.{Refusal}
 use Rattle.mu_model_wire.specs.declared.Why.{Why}
-use Rattle.mu_model_wire.specs.declared.Why.TheVariants.{Short, Value, Long}
+use Rattle.mu_model_wire.specs.declared.Why.TheVariants.{Opcode, Short, Value, Long}
 use Rattle.mu_model_wire.specs.Fields.{Fields, end, ◌▹◌, when, Row, Message}
-use Rattle.mu_model_wire.specs.Reading.{fields_of, message_at}
+use Rattle.mu_model_wire.specs.Reading.{Left, opcode_at, fields_of, message_at}
 use Rattle.mu_model_wire.specs.Spelling.{Fits}
 use Rattle.mu_model_wire.specs.Spells.{Spells}
 use Rattle.mu_model_wire.specs.Sound.{rows_hold}
@@ -76,6 +76,29 @@ abbrev pub MessagesEnd : Type 0
 MessagesEnd =
     (bytes more : List ℕ) (m : Message) → message_at rows bytes ≡ Ok m → is_fixed_row (fields_of rows m.opcode) ≡ true → 0 < length more → length (bytes ++ more) ≤ 380
     → message_at rows (bytes ++ more) ≡ Err (record { at = length bytes; why = Long })
+
+-- octets lack at a place that is there, or is the next; no field has more than 255 octets, so fewer are left
+pub record LacksNear (bytes : List ℕ) (at : ℕ) : Type 0 where
+  pub there : at ≤ length bytes
+  pub near : length bytes < at + 255
+
+abbrev pub ShortsLack : Type 0
+ShortsLack = (bytes : List ℕ) (at : ℕ) → message_at rows bytes ≡ Err (record { at = at; why = Short }) → LacksNear bytes at
+
+-- ---- opcodes
+
+-- it is whole, and no row's
+pub record HasForeignOpcode (bytes : List ℕ) (at : ℕ) : Type 0 where
+  pub first : at ≡ 0
+  pub opcode : ℕ
+  pub others : Left
+  pub read : opcode_at (record { at = 0; octets = bytes }) ≡ Ok (opcode, others)
+  pub none : fields_of rows opcode ≡ None
+
+-- an opcode is refused at the first octet, exactly where it is so, and the octets aren't too many
+pub record OpcodesAreTold : Type 0 where
+  pub told : (bytes : List ℕ) (at : ℕ) → message_at rows bytes ≡ Err (record { at = at; why = Opcode }) → HasForeignOpcode bytes at
+  pub refused : (bytes : List ℕ) → HasForeignOpcode bytes 0 → length bytes ≤ 380 → message_at rows bytes ≡ Err (record { at = 0; why = Opcode })
 
 -- ---- lists of number patterns
 

@@ -1,1 +1,2 @@
 pub mod NodeRecords
+pub mod DistributorRecords

@@ -1,4 +1,4 @@
-//! Worked rows: which records are a node's, from this profile's text, octet by octet.
+//! Worked rows: which records are a node's or a distributor's, from this profile's text, octet by octet.
 #![tactic(auto)]
 
 pub mod rows;

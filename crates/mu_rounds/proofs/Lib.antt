@@ -3,3 +3,6 @@ mod Sets
 mod Saying
 mod Stepping
 mod Coming
+mod Timing
+mod Telling
+mod Beginning

@@ -1,9 +1,10 @@
 -- What holds of the receivers at each place, over all; and the lists that they make.
-use Rattle.std.proofs.Common.{◌≡◌, ◌≤◌, ◌<◌, ◌+◌, ◌-◌, ℕ, zero, suc, List, [], ◌∷◌, ◌++◌, refl, sym, ap, ◌∙◌, true, false, Bool, Option, map, take, drop, length, subst, arith}
+use Rattle.std.proofs.Common.{◌≡◌, ◌≤◌, ◌<◌, ◌+◌, ◌-◌, ℕ, zero, suc, List, [], ◌∷◌, ◌++◌, refl, sym, ap, ◌∙◌, true, false, Bool, Option, inl, inr, map, take, drop, set, length, subst, arith}
 use Rattle.std.specs.Prelude.{slice_index_or, ◌||◌, not}
 use Rattle.std.specs.List.{flat_map, list_any, range_with_len}
 use Rattle.std.proofs.Math.Path.{fun_ext}
-use Rattle.std.proofs.lemmas.List.{drop-map, drop_all, take_all, append-nil}
+use Rattle.std.proofs.lemmas.Bool.{cases_eq}
+use Rattle.std.proofs.lemmas.List.{drop-map, drop_all, take_all, append-nil, get_or-set_same, get_or-set_other, get_or_default}
 use Rattle.std.proofs.lemmas.List.Folds.{flat_map-map}
 use Rattle.mu_model_wire.specs.Reports.{has}
 use Rattle.mu_model_node.specs.NodeMessages.{Request}
@@ -132,3 +133,18 @@ few_held olds held same few = subst AreFew (sym same) few
 
 pub few_written : (olds held news : List Slot) → held ≡ olds → length news ≡ length held → AreFew news → AreFew (take (length olds) (news ++ drop (length news) olds))
 few_written olds held news same long few = subst AreFew (sym (refilled olds held news same long)) few
+
+-- one more receiver was written
+pub each_next : (R : Slot → Slot → Type 0) (olds slots : List Slot) (i : ℕ) (old new : Slot) → i < length slots → i < length olds → old ≡ slice_index_or slots i old → R old new
+    → ((k : ℕ) (d : Slot) → k < i → R (slice_index_or olds k d) (slice_index_or slots k d))
+    → ((k : ℕ) (d : Slot) → i ≤ k → slice_index_or slots k d ≡ slice_index_or olds k d)
+    → (k : ℕ) (d : Slot) → k < i + 1 → R (slice_index_or olds k d) (slice_index_or (set slots i new) k d)
+each_next R olds slots i old new inside within is one done rest k d lt = elim (cases_eq k i) [
+  | inl same ↦
+      let there : slice_index_or (set slots i new) k d ≡ new = ap (λ x. slice_index_or (set slots i new) x d) same ∙ get_or-set_same slots i new d inside in
+      let here : slice_index_or olds k d ≡ old =
+      ap (λ x. slice_index_or olds x d) same ∙ sym (rest i d (omega arith)) ∙ get_or_default slots i d old inside ∙ sym is in
+      subst (λ x. R x (slice_index_or (set slots i new) k d)) (sym here) (subst (λ x. R old x) (sym there) one)
+  | inr other ↦
+      subst (λ x. R (slice_index_or olds k d) x) (sym (get_or-set_other slots i k new d other)) (done k d (omega (arith, lt, other)))
+]

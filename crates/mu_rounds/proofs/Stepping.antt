@@ -4,7 +4,8 @@ use Rattle.std.specs.Prelude.{slice_index_or, max, nat_le, not, ◌||◌, ◌&&�
 use Rattle.std.specs.List.{flat_map, list_any}
 use Rattle.std.proofs.lemmas.Bool.{false≢true}
 use Rattle.mu_model_client.specs.declared.Sending.{Sending}
-use Rattle.mu_model_client.specs.Client.{Receiver, Purpose, Step, Check, Start, Information, Transfer, Block, Chunks, Pull, Get, Verify, Apply, Confirm, Cancel, Place, Before, At, Verified, Ended, Part, Item, Client, Blob, Update, is_in, chunk_total, block_total, is_begun_for, is_pending, part_of, round_time, at_moment}
+use Rattle.mu_model_client.specs.Sets.{has_some}
+use Rattle.mu_model_client.specs.Client.{Receiver, Purpose, Step, Check, Start, Information, Transfer, Block, Chunks, Pull, Get, Verify, Apply, Confirm, Cancel, Place, Before, At, Verified, Ended, Part, Item, Client, Blob, Update, is_in, is_active, chunk_total, block_total, is_begun_for, is_pending, part_of, round_time, at_moment}
 use Rattle.mu_model_client.specs.Lists.{messages, step_message, again_message, first_list, chunk_items, missing_of, wanted_of, said_if}
 use Rattle.mu_model_client.specs.Going.{Going, Next, Go, Rests, Ends, sends, sends_nothing, begun, begun_if, in_step, first_of, begins_if, goes_on, next_step, after, next_block, block_or, least_missed, after_blocks, chunks_or, new_round, unheard, round_ends, round_or_next, round_counted, counted_if, counted, silent_if, silent_after, most_silent, fell_silent, with_silent, after_counting, if_round_over, by_round, by_wanted, unwanted, list_is_sent, by_list, is_empty, is_done, by_step, by_place, going}
 use Rattle.mu_receivers.specs.declared.slot.Slot.{Slot}
@@ -14,7 +15,7 @@ use Rattle.mu_receivers.specs.Slots.{Each, KeepsList, KeepsWas, IsBegun, IsCount
 use Rattle.mu_receivers.specs.Chunks.{rest}
 use Rattle.mu_told.specs.Told.{IsSendable, StepFits, WantsOf}
 use Rattle.mu_rounds.specs.After.{PlaceFits, block_at, chunk_block, is_chunk_step}
-use Rattle.mu_rounds.specs.Rounds.{rest_of, chunks_left, list_left, queue_of, client_of, LeftFits, AllWant, HasShape, GoesOn, KeepsAsked, KeepsLeft, IsFree, rests}
+use Rattle.mu_rounds.specs.Rounds.{rest_of, chunks_left, list_left, queue_of, client_of, LeftFits, AllWant, IsActiveWhere, AllActive, HasShape, GoesOn, KeepsAsked, KeepsLeft, IsFree, rests}
 use Rattle.mu_rounds.specs.declared.left.Left.{Left}
 use Rattle.mu_rounds.specs.declared.rounds.Rounds.{Rounds}
 use Rattle.mu_rounds.proofs.Lists.{each_written, few_written, each_flat, each_so, each_then, receivers_are, receivers_stay, messages_are, any_map, key_of, key_same, keys_stay, rest_same}
@@ -137,7 +138,7 @@ wants_none : (r : Receiver) (x : Bool) → (begun_if r x).wanted ≡ []
 wants_none r true = refl
 wants_none r false = refl
 
-nothing_wanted : (n : ℕ) (r : Receiver) → r.wanted ≡ [] → WantsOf n r
+pub nothing_wanted : (n : ℕ) (r : Receiver) → r.wanted ≡ [] → WantsOf n r
 nothing_wanted n r e some = absurd (omega (arith, some, ap (length {A = Bool}) e))
 
 begun_wants : (p : Sending) (place : Place) (step : Step) (olds news : List Slot) → Each (IsBegun step) olds news → AllWant p place news
@@ -145,6 +146,71 @@ begun_wants p place step olds news all b k d at lt =
     let one = all.each k d (omega (arith, lt, all.long)) in
     nothing_wanted (chunk_total p b) (receiver_of (slice_index_or news k d))
     (ap (λ (r : Receiver). r.wanted) one.receiver ∙ wants_none (receiver_of (slice_index_or olds k d)) (is_in step (receiver_of (slice_index_or olds k d))))
+
+-- ---- those that are asked for missing chunks are active
+
+and_first : (x y : Bool) → (x && y) ≡ true → x ≡ true
+and_first true y e = refl
+and_first false y e = absurd (false≢true e)
+
+begun_if_active : (b : ℕ) (r : Receiver) (x : Bool) → is_in (Get b) r ≡ x → IsActiveWhere (begun_if r x)
+begun_if_active b r true is pending = and_first (is_active r) (has_some r.chunks) is
+begun_if_active b r false is pending = absurd (false≢true pending)
+
+at_same_step : (s t : Step) → At s ≡ At t → s ≡ t
+at_same_step s t e = cc
+
+begun_active : (place : Place) (step : Step) (b : ℕ) (olds news : List Slot) → Each (IsBegun step) olds news → At step ≡ At (Get b)
+    → (k : ℕ) (d : Slot) → k < length news → IsActiveWhere (receiver_of (slice_index_or news k d))
+begun_active place step b olds news all is k d lt =
+    let one = all.each k d (omega (arith, lt, all.long)) in
+    let old = receiver_of (slice_index_or olds k d) in
+    subst IsActiveWhere (sym (one.receiver ∙ ap (λ s. begun s old) (at_same_step step (Get b) is))) (begun_if_active b old (is_in (Get b) old) refl)
+
+active_kept : (place : Place) (olds news : List Slot) → length news ≡ length olds
+    → ((k : ℕ) (d : Slot) → k < length olds → IsActiveWhere (receiver_of (slice_index_or olds k d)) → IsActiveWhere (receiver_of (slice_index_or news k d)))
+    → AllActive place olds → AllActive place news
+active_kept place olds news long one active b k d at lt =
+    let here : k < length olds = omega (arith, lt, long) in
+    one k d here (active b k d at here)
+
+active_same : (old new : Slot) → receiver_of new ≡ receiver_of old → IsActiveWhere (receiver_of old) → IsActiveWhere (receiver_of new)
+active_same old new same active = subst IsActiveWhere (sym same) active
+
+renewed_active : (old new : Slot) (step : Step) → IsRenewed step old new → IsActiveWhere (receiver_of old) → IsActiveWhere (receiver_of new)
+renewed_active old new step one active = subst IsActiveWhere (sym one.receiver) active
+
+fell_pending : (r : Receiver) (step : Step) → (fell_silent r step).pending ≡ false
+fell_pending r Check = refl
+fell_pending r Start = refl
+fell_pending r Information = refl
+fell_pending r Transfer = refl
+fell_pending r (Block b) = refl
+fell_pending r (Chunks b) = refl
+fell_pending r (Pull b) = refl
+fell_pending r (Get b) = refl
+fell_pending r Verify = refl
+fell_pending r Apply = refl
+fell_pending r Confirm = refl
+fell_pending r Cancel = refl
+
+silent_active : (step : Step) (r : Receiver) (x : Bool) → IsActiveWhere r → IsActiveWhere (silent_if step r x)
+silent_active step r true active pending = absurd (false≢true (sym (fell_pending r step) ∙ pending))
+silent_active step r false active pending = active pending
+
+counted_if_active : (step : Step) (r : Receiver) (x : Bool) → IsActiveWhere r → IsActiveWhere (counted_if step r x)
+counted_if_active step r true active = silent_active step (with_silent (silent_after step r) r) (nat_le most_silent (silent_after step r)) active
+counted_if_active step r false active = active
+
+counted_active : (old new : Slot) (step : Step) → IsCounted step old new → IsActiveWhere (receiver_of old) → IsActiveWhere (receiver_of new)
+counted_active old new step one active =
+    subst IsActiveWhere (sym one.receiver) (counted_if_active step (receiver_of old) (receiver_of old).pending active)
+
+no_get : (b k : ℕ) → At (Chunks b) ≡ At (Get k) → ⊥
+no_get b k e = cc
+
+get_no_pull : (b k : ℕ) → At (Pull b) ≡ At (Get k) → ⊥
+get_no_pull b k e = cc
 
 pub messages_begin : (old new : Rounds) (step : Step) → HasShape old → StepFits old.sending step → ((b : ℕ) → step ≡ Chunks b → ⊥) → new.sending ≡ old.sending → new.purpose ≡ old.purpose
     → Each (IsBegun step) old.slots.items new.slots.items → AreFew new.slots.items → new.left ≡ None → new.place ≡ At step → new.began ≡ old.moment → new.moment ≡ old.moment
@@ -173,6 +239,7 @@ messages_begin old new step shape fits isnt sending purpose all few left place b
         place = subst (λ x. PlaceFits new.sending x) (sym place) (subst (λ p. StepFits p step) (sym sending) fits);
         left = λ l some. absurd (none_some l (sym left ∙ some));
         wants = begun_wants new.sending new.place step old.slots.items new.slots.items all;
+        active = λ b k d is lt. begun_active new.place step b old.slots.items new.slots.items all (sym place ∙ is) k d lt;
       };
     }
 
@@ -233,6 +300,7 @@ chunks_begin old new mid b shape fits free sending purpose all more few list lef
             (subst (λ x. LeftFits new.sending x new.slots.items (At (Chunks b)) l) (sym purpose)
             (subst (λ x. LeftFits x old.purpose new.slots.items (At (Chunks b)) l) (sym sending) (leaves l some)));
         wants = λ k i d at lt. absurd (no_pull b k (sym place ∙ at));
+        active = λ k i d at lt. absurd (no_get b k (sym place ∙ at));
       };
     }
 
@@ -276,6 +344,7 @@ rests_there old new place shape e sending purpose slots left at began moment =
         place = subst (λ x. PlaceFits new.sending x) (sym at) (fits_at_rest new.sending place e);
         left = λ l some. absurd (none_some l (sym left ∙ some));
         wants = λ b k d is lt. absurd (no_step_rests place (Pull b) e (sym at ∙ is));
+        active = λ b k d is lt. absurd (no_step_rests place (Get b) e (sym at ∙ is));
       };
     }
 
@@ -322,6 +391,8 @@ round_begins old new step shape at none sending purpose all few left place began
         left = λ l some. absurd (none_some l (sym (left ∙ none) ∙ some));
         wants = subst (λ x. AllWant new.sending x new.slots.items) (sym place)
             (subst (λ p. AllWant p old.place new.slots.items) (sym sending) (renewed_wants old.sending old.place step old.slots.items new.slots.items all shape.wants));
+        active = subst (λ x. AllActive x new.slots.items) (sym place)
+            (active_kept old.place old.slots.items new.slots.items all.long (λ k d lt. renewed_active (slice_index_or old.slots.items k d) (slice_index_or new.slots.items k d) step (all.each k d lt)) shape.active);
       };
     }
 
@@ -392,6 +463,8 @@ counted_shape old new step shape none sending purpose all few left place began m
   left = λ l some. absurd (none_some l (sym (left ∙ none) ∙ some));
   wants = subst (λ x. AllWant new.sending x new.slots.items) (sym place)
       (subst (λ p. AllWant p old.place new.slots.items) (sym sending) (all_counted_want old.sending old.place step old.slots.items new.slots.items all shape.wants));
+  active = subst (λ x. AllActive x new.slots.items) (sym place)
+      (active_kept old.place old.slots.items new.slots.items all.long (λ k d lt. counted_active (slice_index_or old.slots.items k d) (slice_index_or new.slots.items k d) step (all.each k d lt)) shape.active);
 }
 
 -- the round that is over was counted
@@ -461,6 +534,8 @@ chunks_asked old new which step shape at none sending purpose all few left place
     left = λ l some. absurd (none_some l (sym (left ∙ none) ∙ some));
     wants = subst (λ x. AllWant new.sending x new.slots.items) (sym place)
         (subst (λ p. AllWant p old.place new.slots.items) (sym sending) (asked_wants old.sending old.place which old.slots.items new.slots.items all shape.wants));
+    active = subst (λ x. AllActive x new.slots.items) (sym place)
+        (active_kept old.place old.slots.items new.slots.items all.long (λ k d lt. active_same (slice_index_or old.slots.items k d) (slice_index_or new.slots.items k d) (all.each k d lt).receiver) shape.active);
   };
   was = each_so (IsAsked which) KeepsWas old.slots.items new.slots.items all (λ x y one. one.was);
   messages = λ p purpose step. asked_messages p purpose step which old.slots.items new.slots.items all;
@@ -541,6 +616,7 @@ wanted_begin old mid new b left asked place midsending within nothing none list 
               alone = λ step at. subst (λ x. messages_left old.sending old.purpose x new.slots.items ≡ []) (at_same (Pull b) step at) empty;
             }))));
         wants = unwanting_want new.sending new.place mid.slots.items new.slots.items all;
+        active = λ k i d at lt. absurd (get_no_pull b k (sym (newplace ∙ place) ∙ at));
       };
     }
 
@@ -774,6 +850,7 @@ moved_shape r m now shape later = record {
   place = shape.place;
   left = shape.left;
   wants = shape.wants;
+  active = shape.active;
 }
 
 pub went_before : (r new : Rounds) (m now : ℕ) (step : Step) → m ≡ max r.moment now → r.place ≡ Before step

@@ -1,7 +1,7 @@
 -- A machine of rounds as the model's client.
 use Rattle.std.specs.Prelude.{ℕ, ◌≡◌, ◌≤◌, ◌<◌, ◌++◌, Bool, true, false, List, [], map, length, Option, Some, None, IfSome, slice_index_or}
 use Rattle.mu_model_client.specs.declared.Sending.{Sending}
-use Rattle.mu_model_client.specs.Client.{Purpose, Step, Chunks, Pull, Get, Place, At, Verified, Ended, Item, Client, block_total, chunk_total}
+use Rattle.mu_model_client.specs.Client.{Purpose, Step, Chunks, Pull, Get, Place, At, Verified, Ended, Receiver, Item, Client, is_active, block_total, chunk_total}
 use Rattle.mu_model_client.specs.Lists.{sent_for}
 use Rattle.mu_model_client.specs.Going.{Going, Next, Go, sends, is_empty}
 use Rattle.mu_receivers.specs.Receivers.{receiver_of, receivers_of}
@@ -60,6 +60,15 @@ abbrev pub AllWant : Sending → Place → List Slot → Type 0
 AllWant p place slots =
     (b k : ℕ) (d : Slot) → place ≡ At (Pull b) → k < length slots → WantsOf (chunk_total p b) (receiver_of (slice_index_or slots k d))
 
+-- a receiver that is pending is active
+abbrev pub IsActiveWhere : Receiver → Type 0
+IsActiveWhere r = r.pending ≡ true → is_active r ≡ true
+
+-- those that are asked for a block's missing chunks are active
+abbrev pub AllActive : Place → List Slot → Type 0
+AllActive place slots =
+    (b k : ℕ) (d : Slot) → place ≡ At (Get b) → k < length slots → IsActiveWhere (receiver_of (slice_index_or slots k d))
+
 pub record HasShape (r : Rounds) : Type 0 where
   pub range : IsSendable r.sending
   pub later : r.began ≤ r.moment
@@ -68,6 +77,7 @@ pub record HasShape (r : Rounds) : Type 0 where
   pub place : PlaceFits r.sending r.place
   pub left : (left : Left) → r.left ≡ Some left → LeftFits r.sending r.purpose r.slots.items r.place left
   pub wants : AllWant r.sending r.place r.slots.items
+  pub active : AllActive r.place r.slots.items
 
 -- ---- a time event
 

@@ -1,5 +1,5 @@
 -- What is sent, as the model's messages.
-use Rattle.std.specs.Prelude.{ℕ, List, map, Option, Some, None, Bool, true, false}
+use Rattle.std.specs.Prelude.{ℕ, ◌≤◌, List, length, map, All, Option, Some, None}
 use Rattle.mu_model_node.specs.BlobMessages.{BlobInformationGet, BlockStart, BlockGet, ChunkTransfer}
 use Rattle.mu_model_node.specs.UpdateMessages.{InformationGet, MetadataCheck, StartUpdate, UpdateGet, UpdateApply, UpdateCancel}
 use Rattle.mu_model_node.specs.NodeMessages.{Request, OfUpdate, OfBlob}
@@ -24,6 +24,10 @@ request_of p purpose said.UpdateApply = OfUpdate UpdateApply
 request_of p purpose (said.InformationGet index) = OfUpdate (InformationGet index 1)
 request_of p purpose said.UpdateCancel = OfUpdate UpdateCancel
 
+abbrev pub SaysOctets : Said → Type 0
+SaysOctets (said.ChunkTransfer k octets) = 1 ≤ length octets.items
+SaysOctets _ = Unit {0}
+
 abbrev pub said_of : Sending → Purpose → Option Said → Option Request
 said_of p purpose None = None
 said_of p purpose (Some s) = Some (request_of p purpose s)
@@ -33,3 +37,10 @@ sent_of p purpose sent = (sent.to, request_of p purpose sent.said)
 
 abbrev pub sents_of : Sending → Purpose → List Sent → List (ℕ × Request)
 sents_of p purpose sents = map (sent_of p purpose) sents
+
+-- a chunk has octets
+abbrev pub HasOctets : Sent → Type 0
+HasOctets sent = SaysOctets sent.said
+
+abbrev pub HaveOctets : List Sent → Type 0
+HaveOctets sents = All HasOctets sents

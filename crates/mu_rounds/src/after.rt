@@ -20,7 +20,7 @@ pub enum Next {
 }
 
 /// The part that a step belongs to.
-pub(crate) fn part_of(step: Step) -> Part
+pub fn part_of(step: Step) -> Part
     ensures { result ≡ part_of step }
 {
     match step {

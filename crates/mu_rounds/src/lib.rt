@@ -6,15 +6,21 @@
 #![tactic(auto)]
 
 mod after;
+mod begin;
 mod left;
 mod reads;
 mod rounds;
 mod said;
 mod sending;
 mod steps;
+mod time;
+mod told;
 
+pub use after::part_of;
+pub use begin::{KeptRow, new_slot, rounds_at};
 pub use left::Left;
 pub use reads::read_spots;
 pub use rounds::Rounds;
 pub use said::{Said, Sent};
 pub use sending::send_messages;
+pub use told::{Heard, UpdateAnswer};

@@ -6,7 +6,7 @@ ghost use Rattle.mu_receivers.specs.Image.{Image, IsSame};
 ghost use Rattle.mu_receivers.specs.Reads.{CanRead, Within};
 ghost use Rattle.mu_receivers.specs.Chunks.{item_of, items_of};
 ghost use Rattle.mu_receivers.specs.declared.lists.Spot.{Spot};
-ghost use Rattle.mu_rounds.specs.Sents.{sent_of, sents_of};
+ghost use Rattle.mu_rounds.specs.Sents.{sent_of, sents_of, HasOctets, HaveOctets};
 
 use crate::rounds::Rounds;
 use crate::said::{Said, Sent};
@@ -23,6 +23,7 @@ fn read_spot<I: ImageBytes>(
     requires can { CanRead client.now.sending (I.image image.old) }
     requires within { Within client.now.sending b spot.chunk }
     ensures gives { IfOk result (λ sent. IfSome (I.image image.old).octets (λ octets. sent_of client.now.sending client.now.purpose sent ≡ sent_for client.now.sending octets (item_of b spot))) }
+    ensures octets { IfOk result HasOctets }
     ensures same { IsSame (I.image image.old) (I.image image.new) }
     ensures fails { OnErr result (IsTrue (I.image image.old).can_fail) }
     ensures cause { HasCause (I.image image.old).faults (I.image image.new).faults result }
@@ -49,6 +50,7 @@ pub fn read_spots<I: ImageBytes>(
     requires can { CanRead client.now.sending (I.image image.old) }
     requires within { All (λ (spot : Spot). Within client.now.sending b spot.chunk) spots.now }
     ensures gives { IfOk result (λ sents. IfSome (I.image image.old).octets (λ octets. sents_of client.now.sending client.now.purpose sents.items ≡ map (sent_for client.now.sending octets) (items_of b spots.now))) }
+    ensures octets { IfOk result (λ sents. HaveOctets sents.items) }
     ensures same { IsSame (I.image image.old) (I.image image.new) }
     ensures fails { OnErr result (IsTrue (I.image image.old).can_fail) }
     ensures cause { HasCause (I.image image.old).faults (I.image image.new).faults result }

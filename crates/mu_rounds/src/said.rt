@@ -1,9 +1,9 @@
 // What is sent.
-ghost use Rattle.std.specs.Prelude.{◌≡◌};
+ghost use Rattle.std.specs.Prelude.{◌≡◌, IfSome};
 ghost use Rattle.mu_model_client.specs.declared.Sending.{Sending};
 ghost use Rattle.mu_model_client.specs.Client.{Purpose, Receiver};
 ghost use Rattle.mu_receivers.specs.Messages.{list_message};
-ghost use Rattle.mu_rounds.specs.Sents.{said_of};
+ghost use Rattle.mu_rounds.specs.Sents.{said_of, SaysOctets};
 
 use arrayvec::ArrayVec;
 use mu_model_client::Step;
@@ -61,7 +61,8 @@ impl Default for Sent {
 
 /// The message that the list of a step has for a receiver of the image with this index.
 pub(crate) fn message_of(step: Step, index: u8) -> Option<Said>
-    ensures { (p : Sending) (purpose : Purpose) (r : Receiver) → r.row.index ≡ index → said_of p purpose result ≡ list_message p purpose step r }
+    ensures says { (p : Sending) (purpose : Purpose) (r : Receiver) → r.row.index ≡ index → said_of p purpose result ≡ list_message p purpose step r }
+    ensures octets { IfSome result SaysOctets }
 {
     match step {
         Step::Check => Some(Said::MetadataCheck { index }),

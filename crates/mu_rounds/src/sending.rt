@@ -6,7 +6,7 @@ ghost use Rattle.mu_model_client.specs.Client.{Purpose};
 ghost use Rattle.mu_model_client.specs.Lists.{sent_for};
 ghost use Rattle.mu_receivers.specs.Messages.{listed, messages_left};
 ghost use Rattle.mu_receivers.specs.Slots.{Each, IsFew, AreFew};
-ghost use Rattle.mu_rounds.specs.Sents.{sents_of};
+ghost use Rattle.mu_rounds.specs.Sents.{sents_of, HaveOctets};
 ghost use Rattle.mu_rounds.specs.Rounds.{SaysOne, IsSaid};
 
 use crate::said::{Sent, message_of};
@@ -19,6 +19,7 @@ pub fn send_messages(slots: &mut [Slot], step: Step, out: &mut ArrayVec<Sent, 16
     requires { out.old.items ≡ [] }
     ensures sent { (p : Sending) (purpose : Purpose) (image : List ℕ) → sents_of p purpose out.new.items ≡ map (sent_for p image) (take 16 (messages_left p purpose step slots.old)) }
     ensures left { (p : Sending) (purpose : Purpose) → messages_left p purpose step slots.new ≡ drop 16 (messages_left p purpose step slots.old) }
+    ensures octets { HaveOctets out.new.items }
     ensures each { Each IsSaid slots.old slots.new }
     ensures few { AreFew slots.old → AreFew slots.new }
 {
@@ -31,6 +32,7 @@ pub fn send_messages(slots: &mut [Slot], step: Step, out: &mut ArrayVec<Sent, 16
 // Sends the receiver's message of a step's list, if it is still to go and there is room.
 fn send_message(slot: &mut Slot, step: Step, out: &mut ArrayVec<Sent, 16>)
     ensures says { (p : Sending) (purpose : Purpose) → SaysOne p purpose step slot.old slot.new out.old.items out.new.items }
+    ensures octets { HaveOctets out.old.items → HaveOctets out.new.items }
     ensures said { IsSaid slot.old slot.new }
     ensures few { IsFew slot.old → IsFew slot.new }
 {

@@ -22,6 +22,7 @@ loop-i-preserved c =
       long = grind (arith, common_steps, c.loop-i.invariant.long);
       done = λ k d lt. grind (arith, common_steps, c.loop-i.invariant.done k d, c.loop-i.invariant.rest k d, c.send_message.ensures.said, c.index-slots-i.is);
       rest = λ k d le. grind (arith, common_steps, c.loop-i.invariant.rest k d);
+      octets = c.send_message.ensures.octets c.loop-i.invariant.octets;
       few = λ all k d lt. grind (arith, common_steps, c.loop-i.invariant.few all k d, c.send_message.ensures.few);
     }
 

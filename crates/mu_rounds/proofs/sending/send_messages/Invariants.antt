@@ -6,7 +6,7 @@ use Rattle.mu_model_client.specs.Lists.{sent_for}
 use Rattle.mu_receivers.specs.Messages.{messages_left}
 use Rattle.mu_receivers.specs.Slots.{AreFew}
 use Rattle.mu_receivers.specs.declared.slot.Slot.{Slot}
-use Rattle.mu_rounds.specs.Sents.{sents_of}
+use Rattle.mu_rounds.specs.Sents.{sents_of, HaveOctets}
 use Rattle.mu_rounds.specs.Rounds.{IsSaid}
 use Rattle.mu_rounds.proofs.sending.send_messages.Given as goal
 
@@ -17,5 +17,6 @@ invariant-loop-i l = record {
   long : length l.slots ≡ length l.fn.slots;
   done : (k : ℕ) (d : Slot) → k < l.i → IsSaid (slice_index_or l.fn.slots k d) (slice_index_or l.slots k d);
   rest : (k : ℕ) (d : Slot) → l.i ≤ k → slice_index_or l.slots k d ≡ slice_index_or l.fn.slots k d;
+  octets : HaveOctets l.out.items;
   few : AreFew l.fn.slots → AreFew l.slots;
 }

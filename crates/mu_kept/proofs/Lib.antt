@@ -1,0 +1,10 @@
+pub mod Showing
+pub mod Fitting
+pub mod States
+pub mod Asking
+pub mod Writing
+pub mod Knowing
+pub mod Changing
+pub mod Releasing
+pub mod Gathering
+pub mod Verifying
