@@ -1,13 +1,11 @@
 -- What a world that may keep a fault has done is a run of its world.
-use Rattle.std.proofs.Common.{◌≡◌, ℕ, List, [], ◌∷◌, ◌++◌, Option, Some, None, refl, ap, ◌⊎◌, inl, inr}
-use Rattle.mu_model_script.specs.Limits.{first_lines}
+use Rattle.std.proofs.Common.{ℕ, List, [], ◌∷◌, Option, ap, ◌⊎◌, inl, inr}
 use Rattle.mu_model_script.specs.Runs as runs
-use Rattle.mu_model_world.specs.World.{World, new_world}
+use Rattle.mu_model_world.specs.World.{new_world}
 use Rattle.mu_model_world.specs.Run.{Step, Bars, Wears}
 use Rattle.mu_world.specs.Moved.{Held, new_held}
 use Rattle.mu_top.specs.Ends.{EndsWith, Ends, IsRefused, IsTraceOfSome}
 use Rattle.mu_top.specs.HeldRun.{HeldStep, HeldBars, HeldWears}
-use Rattle.mu_input.specs.Reading.{WhereTold}
 use Rattle.mu_top.specs.declared.status.Status.{Status}
 use Rattle.mu_top.specs.declared.status.Status.TheVariants.{Done, Usage, SourceFault, SinkFault, Refused, NoMemory, Worn, TooLong}
 use Rattle.mu_top.proofs.Told.{where_told}

@@ -1,8 +1,7 @@
 -- Facts about lines of payloads.
-use Rattle.std.proofs.Common.{◌≡◌, ℕ, ◌+◌, ◌/◌, ◌%◌, List, [], ◌∷◌, ◌++◌, length, Bool, true, false, Option, Some, None, Result, Ok, Err, IsOk, refl, sym, ap, ◌∙◌, subst, arith}
+use Rattle.std.proofs.Common.{◌≡◌, ℕ, ◌+◌, ◌/◌, ◌%◌, List, [], ◌∷◌, ◌++◌, length, Bool, true, false, Option, Some, None, Result, Ok, Err, IsOk, refl, subst, arith}
 use Rattle.std.specs.Prelude.{◌==◌, if◌then◌else◌}
 use Rattle.std.specs.List.{AllPass}
-use Rattle.std.proofs.lemmas.List.{append-nil}
 use Rattle.std.proofs.lemmas.List.Elements.{All-cons}
 use Rattle.std.proofs.lemmas.Bool.{eqb-false}
 use Rattle.std.specs.Result.{MatchResult}
@@ -10,11 +9,9 @@ use Rattle.hex.specs.declared.error.FromHexError.{FromHexError}
 use Rattle.hex.specs.Hex.{decode_sized, is_hex_digit}
 use Rattle.hex.proofs.HexLemmas.{IsOk-decode_sized}
 use Rattle.mu_top.specs.declared.payloads.PayloadText.{PayloadText}
-use Rattle.mu_top.specs.LineDone.{DidLine}
-use Rattle.mu_top.proofs.Told.{told_self}
 use Rattle.mu_model_wire.specs.Fields.{Message}
 use Rattle.mu_model_script.specs.Runs as runs
-use Rattle.mu_top.specs.Payloads.{DoesPayload, BarsPayload, Prints, PayloadLine, Silent, Refused, Holds, payload_line, printed, first_bad_digit, bad_hex}
+use Rattle.mu_top.specs.Payloads.{DoesPayload, BarsPayload, Prints, PayloadLine, Refused, payload_line, printed, first_bad_digit, bad_hex}
 
 refused_prints_nothing : (shown : Message → List ℕ) (line : PayloadLine) (place : ℕ) (word text : List ℕ) → line ≡ Refused place word → Prints shown line text → ⊥
 refused_prints_nothing shown line place word text is prints = subst (λ l. Prints shown l text) is prints
@@ -30,10 +27,6 @@ pub payloads_alone : (start : PayloadText) (lines : List (List ℕ)) (text whole
     → runs.Refuses DoesPayload BarsPayload start lines text number place word → runs.Prints DoesPayload start lines whole → ⊥
 payloads_alone start lines text whole number place word refuses prints =
     through start refuses.before refuses.line refuses.others whole prints.end place word refuses.refused (subst (λ ls. runs.Run DoesPayload start ls whole prints.end) refuses.cut prints.run)
-
--- nothing is printed of a line that says nothing
-pub did_silent : (w : PayloadText) (line : List ℕ) (o : Option (List ℕ)) → payload_line line ≡ Silent → DidLine DoesPayload w line w o o
-did_silent w line o is = record { text = []; does = (refl, rw is refl); wrote = told_self o _ (λ v. sym (append-nil v)) }
 
 -- ---- hexadecimal
 

@@ -7,7 +7,7 @@ use Rattle.mu_model_script.specs.Pieces.{pieces, line_feed}
 use Rattle.mu_model_script.specs.Limits.{most_octets, most_in_line, lines_in, lines_within, first_lines, Passes}
 use Rattle.mu_model_script.specs.Runs.{Run, Prints, Refuses}
 use Rattle.mu_model_script.specs.Texts.{refused_text}
-use Rattle.mu_top.specs.Ends.{Doing, Barring, Wearing, EndsWith, Ends, EndsInPart, Completes, EndsAsItMust, NoneRefused, NoneWears, NoneDone, OrNoMemory, Told, IsWhole, IsRefused, IsWornOut, IsTooLong, IsInPart, IsTraceOfSome, IsBeginning}
+use Rattle.mu_top.specs.Ends.{Doing, Barring, Wearing, EndsWith, Ends, EndsInPart, Completes, EndsAsItMust, NoneWears, OrNoMemory, Told, IsWhole, IsRefused, IsTooLong, IsInPart, IsTraceOfSome, IsBeginning}
 use Rattle.mu_top.specs.LineDone.{StopsLine, EndsAt}
 use Rattle.mu_input.specs.Reading.{IsPart, Reader, to_come, WhereTold, IsAtRest, NextLine, GivesLine, Took}
 use Rattle.mu_top.specs.Reading.{Wrote, WroteSome}

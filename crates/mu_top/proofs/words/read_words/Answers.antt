@@ -1,5 +1,4 @@
-use Rattle.std.proofs.Common.{sym, ◌∙◌, ap}
-use Rattle.std.specs.Option.{option_copied}
+use Rattle.std.proofs.Common.{sym, ◌∙◌}
 use Rattle.mu_top.proofs.WordLists.{image_words}
 use Rattle.mu_top.proofs.words.read_words.Goals as goal
 

@@ -1,5 +1,4 @@
 use Rattle.std.proofs.Common.{◌∙◌, sym}
-use Rattle.mu_top.proofs.PayloadLines.{did_silent}
 use Rattle.mu_top.proofs.Printing.{line_holds, printed_did, printed_stops, no_memory}
 use Rattle.mu_top.proofs.payloads.PayloadTextLineWork.do_line.Goals as goal
 
