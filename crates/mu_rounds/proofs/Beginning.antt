@@ -1,7 +1,7 @@
 -- A machine of rounds that begins, or is asked to apply or to cancel.
-use Rattle.std.proofs.Common.{◌≡◌, ◌≤◌, ◌<◌, ℕ, List, [], ◌++◌, refl, sym, subst, ◌∙◌, Option, Some, None, take, drop, length, arith}
+use Rattle.std.proofs.Common.{◌≡◌, ◌≤◌, ◌<◌, List, [], ◌++◌, refl, sym, subst, ◌∙◌, Option, None, take, drop, length, arith}
 use Rattle.mu_model_client.specs.declared.Sending.{Sending}
-use Rattle.mu_model_client.specs.Client.{Receiver, Purpose, Step, Place, Before, At, Verified, Ended, Pull, Get, Cancel}
+use Rattle.mu_model_client.specs.Client.{Purpose, Step, Place, Before, At, Verified, Ended, Pull, Get, Cancel}
 use Rattle.mu_model_client.specs.Begin.{at_first, canceled, take_cancel}
 use Rattle.mu_receivers.specs.declared.slot.Slot.{Slot}
 use Rattle.mu_receivers.specs.Receivers.{receivers_of}

@@ -1,6 +1,6 @@
 -- What holds of the receivers at each place, over all; and the lists that they make.
-use Rattle.std.proofs.Common.{◌≡◌, ◌≤◌, ◌<◌, ◌+◌, ◌-◌, ℕ, zero, suc, List, [], ◌∷◌, ◌++◌, refl, sym, ap, ◌∙◌, true, false, Bool, Option, inl, inr, map, take, drop, set, length, subst, arith}
-use Rattle.std.specs.Prelude.{slice_index_or, ◌||◌, not}
+use Rattle.std.proofs.Common.{◌≡◌, ◌≤◌, ◌<◌, ◌+◌, ◌-◌, ℕ, suc, List, [], ◌∷◌, ◌++◌, refl, sym, ap, ◌∙◌, Bool, Option, inl, inr, map, take, drop, set, length, subst, arith}
+use Rattle.std.specs.Prelude.{slice_index_or, ◌||◌}
 use Rattle.std.specs.List.{flat_map, list_any, range_with_len}
 use Rattle.std.proofs.Math.Path.{fun_ext}
 use Rattle.std.proofs.lemmas.Bool.{cases_eq}
@@ -8,8 +8,7 @@ use Rattle.std.proofs.lemmas.List.{drop-map, drop_all, take_all, append-nil, get
 use Rattle.std.proofs.lemmas.List.Folds.{flat_map-map}
 use Rattle.mu_model_wire.specs.Reports.{has}
 use Rattle.mu_model_node.specs.NodeMessages.{Request}
-use Rattle.mu_model_client.specs.declared.Sending.{Sending}
-use Rattle.mu_model_client.specs.Client.{Receiver, Purpose, Step, Item, Sends, is_pending}
+use Rattle.mu_model_client.specs.Client.{Receiver, Sends, is_pending}
 use Rattle.mu_model_client.specs.Lists.{messages, said_if, lacking_if}
 use Rattle.mu_receivers.specs.declared.slot.Slot.{Slot}
 use Rattle.mu_receivers.specs.Receivers.{receiver_of, receivers_of}

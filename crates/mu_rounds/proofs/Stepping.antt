@@ -1,13 +1,13 @@
 -- How the machine comes from one step to the next as the model does.
-use Rattle.std.proofs.Common.{◌≡◌, ◌≤◌, ◌<◌, ◌+◌, ℕ, zero, suc, List, [], ◌∷◌, ◌++◌, refl, sym, ap, subst, ◌∙◌, true, false, Bool, Option, Some, None, map, take, drop, length, arith}
+use Rattle.std.proofs.Common.{◌≡◌, ◌≤◌, ◌<◌, ◌+◌, ℕ, List, [], ◌∷◌, ◌++◌, refl, sym, ap, subst, ◌∙◌, true, false, Bool, Option, Some, None, map, take, drop, length, arith}
 use Rattle.std.specs.Prelude.{slice_index_or, max, nat_le, not, ◌||◌, ◌&&◌, is_none, is_some, IfSome}
-use Rattle.std.specs.List.{flat_map, list_any}
+use Rattle.std.specs.List.{list_any}
 use Rattle.std.proofs.lemmas.Bool.{false≢true}
 use Rattle.mu_model_client.specs.declared.Sending.{Sending}
 use Rattle.mu_model_client.specs.Sets.{has_some}
 use Rattle.mu_model_client.specs.Client.{Receiver, Purpose, Step, Check, Start, Information, Transfer, Block, Chunks, Pull, Get, Verify, Apply, Confirm, Cancel, Place, Before, At, Verified, Ended, Part, Item, Client, Blob, Update, is_in, is_active, chunk_total, block_total, is_begun_for, is_pending, part_of, round_time, at_moment}
 use Rattle.mu_model_client.specs.Lists.{messages, step_message, again_message, first_list, chunk_items, missing_of, wanted_of, said_if}
-use Rattle.mu_model_client.specs.Going.{Going, Next, Go, Rests, Ends, sends, sends_nothing, begun, begun_if, in_step, first_of, begins_if, goes_on, next_step, after, next_block, block_or, least_missed, after_blocks, chunks_or, new_round, unheard, round_ends, round_or_next, round_counted, counted_if, counted, silent_if, silent_after, most_silent, fell_silent, with_silent, after_counting, if_round_over, by_round, by_wanted, unwanted, list_is_sent, by_list, is_empty, is_done, by_step, by_place, going}
+use Rattle.mu_model_client.specs.Going.{Going, Next, Go, sends, sends_nothing, begun, begun_if, in_step, first_of, begins_if, goes_on, next_step, after, block_or, least_missed, after_blocks, new_round, unheard, round_ends, round_or_next, round_counted, counted_if, counted, silent_if, silent_after, most_silent, fell_silent, with_silent, after_counting, if_round_over, by_round, by_wanted, unwanted, list_is_sent, by_list, is_empty, is_done, by_step, by_place, going}
 use Rattle.mu_receivers.specs.declared.slot.Slot.{Slot}
 use Rattle.mu_receivers.specs.Receivers.{receiver_of, receivers_of}
 use Rattle.mu_receivers.specs.Messages.{list_message, listed, messages_left}
@@ -15,7 +15,7 @@ use Rattle.mu_receivers.specs.Slots.{Each, KeepsList, KeepsWas, IsBegun, IsCount
 use Rattle.mu_receivers.specs.Chunks.{rest}
 use Rattle.mu_told.specs.Told.{IsSendable, StepFits, WantsOf}
 use Rattle.mu_rounds.specs.After.{PlaceFits, block_at, chunk_block, is_chunk_step}
-use Rattle.mu_rounds.specs.Rounds.{rest_of, chunks_left, list_left, queue_of, client_of, LeftFits, AllWant, IsActiveWhere, AllActive, HasShape, GoesOn, KeepsAsked, KeepsLeft, IsFree, rests}
+use Rattle.mu_rounds.specs.Rounds.{rest_of, chunks_left, list_left, queue_of, client_of, LeftFits, AllWant, IsActiveWhere, AllActive, HasShape, GoesOn, KeepsLeft, IsFree, rests}
 use Rattle.mu_rounds.specs.declared.left.Left.{Left}
 use Rattle.mu_rounds.specs.declared.rounds.Rounds.{Rounds}
 use Rattle.mu_rounds.proofs.Lists.{each_written, few_written, each_flat, each_so, each_then, receivers_are, receivers_stay, messages_are, any_map, key_of, key_same, keys_stay, rest_same}

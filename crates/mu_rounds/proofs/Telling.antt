@@ -1,5 +1,5 @@
 -- A packet from a receiver: what it keeps, and all receivers after it.
-use Rattle.std.proofs.Common.{◌≡◌, ◌≤◌, ◌<◌, ℕ, zero, suc, List, [], ◌∷◌, refl, sym, ap, subst, ◌∙◌, true, false, Bool, Option, Some, None, map, take, drop, length, arith}
+use Rattle.std.proofs.Common.{◌≡◌, ◌<◌, ℕ, List, [], ◌∷◌, refl, sym, ap, subst, ◌∙◌, true, false, Bool, Option, Some, None, map, take, drop, length, arith}
 use Rattle.std.specs.Prelude.{slice_index_or, max, ◌++◌, ◌==◌, ◌&&◌, ◌||◌, not, nat_le, nat_eq, if◌then◌else◌, replicate}
 use Rattle.std.specs.List.{list_any, range_with_len}
 use Rattle.std.proofs.Math.Path.{fun_ext}
@@ -7,7 +7,7 @@ use Rattle.std.proofs.lemmas.Bool.{false≢true}
 use Rattle.std.proofs.lemmas.Bool.Decides.{nat_tests}
 use Rattle.std.proofs.lemmas.List.{length-replicate}
 use Rattle.std.proofs.lemmas.List.FromFn.{length-map-range_with_len}
-use Rattle.mu_model_wire.specs.Reports.{has, union, members, field_length, field_bit}
+use Rattle.mu_model_wire.specs.Reports.{has, members, field_length, field_bit}
 use Rattle.mu_model_wire.specs.declared.reports.Report.{Report}
 use Rattle.mu_model_wire.specs.declared.reports.Report.TheVariants.{All, Nothing, Bits, List as Listed}
 use Rattle.mu_model_image.specs.declared.Meta.{Meta}
@@ -16,16 +16,16 @@ use Rattle.mu_model_node.specs.UpdateMessages.{UpdateReply}
 use Rattle.mu_model_client.specs.declared.Sending.{Sending}
 use Rattle.mu_model_client.specs.Rows.{row_after}
 use Rattle.mu_model_client.specs.declared.Dropped.TheVariants.{Barren}
-use Rattle.mu_model_client.specs.Sets.{named_set, set_of, set_of_field, no_bit_from, has_some, all_below}
+use Rattle.mu_model_client.specs.Sets.{named_set, set_of, no_bit_from, has_some, all_below}
 use Rattle.mu_model_client.specs.Answers.{Answer, FromUpdate, FromBlob, BlobAnswer, InformationIs, TransferIs, BlockIs, PartIs}
-use Rattle.mu_model_client.specs.Client.{Receiver, Purpose, Blob, Update, Step, Pull, Get, Place, Before, At, Verified, Ended, Client, at_moment, chunk_total, stands_active}
-use Rattle.mu_model_client.specs.Told.{answered, dropped, refused_transfer, with_chunks, wants, hears, part_told, pull_told, chunks_in, on_pull, on_get, get_told, with_barren, barren_after, step_told, if_pending, place_told, row_told, row_counted, is_present, told, told_if}
+use Rattle.mu_model_client.specs.Client.{Receiver, Purpose, Blob, Update, Step, Pull, Get, Place, At, Client, chunk_total, stands_active}
+use Rattle.mu_model_client.specs.Told.{answered, dropped, refused_transfer, with_chunks, wants, hears, part_told, pull_told, chunks_in, on_pull, on_get, get_told, barren_after, step_told, if_pending, place_told, row_told, row_counted, is_present, told, told_if}
 use Rattle.mu_receivers.specs.declared.slot.Slot.{Slot}
 use Rattle.mu_receivers.specs.Receivers.{receiver_of, receivers_of}
-use Rattle.mu_receivers.specs.Slots.{Each, KeepsList, IsFew, AreFew}
+use Rattle.mu_receivers.specs.Slots.{Each}
 use Rattle.mu_told.specs.Told.{IsTold, IsSendable, WantsOf}
 use Rattle.mu_rounds.specs.After.{PlaceFits}
-use Rattle.mu_rounds.specs.Rounds.{client_of, queue_of, LeftFits, AllWant, IsActiveWhere, AllActive, HasShape}
+use Rattle.mu_rounds.specs.Rounds.{client_of, IsActiveWhere, HasShape}
 use Rattle.mu_told.specs.Answers.{blob_answer_of}
 use Rattle.mu_told.specs.declared.answer.BlobAnswer.{BlobAnswer as BlobAnswerHere}
 use Rattle.mu_rounds.specs.declared.told.Heard.{Heard}
@@ -33,7 +33,7 @@ use Rattle.mu_rounds.specs.declared.told.Heard.TheVariants as heard
 use Rattle.mu_rounds.specs.Told.{answer_of, told_at, OwnIs, Listens, ListensFor, CanAnswer, AllCanAnswer}
 use Rattle.mu_rounds.specs.declared.rounds.Rounds.{Rounds}
 use Rattle.mu_rounds.specs.declared.told.Listener.{Listener}
-use Rattle.mu_rounds.proofs.Lists.{each_written, refilled, receivers_are}
+use Rattle.mu_rounds.proofs.Lists.{each_written, receivers_are}
 use Rattle.mu_rounds.proofs.Stepping.{client_same, nothing_wanted}
 use Rattle.mu_rounds.proofs.Timing.{queue_kept, fits_kept}
 

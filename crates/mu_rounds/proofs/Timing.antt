@@ -1,34 +1,34 @@
 -- A time event: the first of the list that are sent, and the way back.
-use Rattle.std.proofs.Common.{◌≡◌, ◌≤◌, ◌<◌, ℕ, List, [], ◌∷◌, ◌++◌, refl, sym, ap, subst, ◌∙◌, true, false, Bool, Option, Some, None, map, take, drop, length, arith}
+use Rattle.std.proofs.Common.{◌≡◌, ◌≤◌, ◌<◌, ℕ, List, [], ◌++◌, refl, sym, ap, subst, ◌∙◌, false, Option, Some, None, map, take, drop, length, arith}
 use Rattle.std.specs.Prelude.{slice_index_or, IfSome}
 use Rattle.std.specs.Option.{MatchOption}
 use Rattle.std.proofs.lemmas.List.{drop_all, take_all, length-map}
 use Rattle.std.proofs.Math.Seq.{take-append_seam, drop-append_seam}
 use Rattle.mu_model_node.specs.NodeMessages.{Request}
 use Rattle.mu_model_client.specs.declared.Sending.{Sending}
-use Rattle.mu_model_client.specs.Client.{Receiver, Purpose, Step, Pull, Place, Before, At, Verified, Ended, Item, Client, chunk_total, stands_active}
+use Rattle.mu_model_client.specs.Client.{Receiver, Purpose, Step, Place, Before, At, Verified, Ended, Item, chunk_total, stands_active}
 use Rattle.mu_model_client.specs.Lists.{sent_for}
 use Rattle.mu_model_client.specs.Going.{Going, going, sends, is_empty}
 use Rattle.mu_model_client.specs.Due.{due}
 use Rattle.mu_receivers.specs.declared.slot.Slot.{Slot}
 use Rattle.mu_receivers.specs.declared.lists.Spot.{Spot}
 use Rattle.mu_receivers.specs.declared.lists.Cursor.{Cursor}
-use Rattle.mu_receivers.specs.Receivers.{receiver_of, receivers_of, before}
+use Rattle.mu_receivers.specs.Receivers.{receiver_of, before}
 use Rattle.mu_receivers.specs.Messages.{listed, messages_left}
 use Rattle.mu_receivers.specs.Slots.{Each, KeepsList, KeepsWas, IsKept, IsTakenBack, IsFew, AreFew}
-use Rattle.mu_receivers.specs.Chunks.{items_of, item_of, rest}
+use Rattle.mu_receivers.specs.Chunks.{items_of, item_of}
 use Rattle.mu_receivers.specs.Image.{Image}
 use Rattle.mu_receivers.specs.Reads.{CanRead}
 use Rattle.mu_told.specs.Told.{IsSendable, WantsOf}
 use Rattle.mu_rounds.specs.After.{PlaceFits, block_at}
-use Rattle.mu_rounds.specs.Rounds.{rest_of, chunks_left, list_left, queue_of, client_of, LeftFits, AllWant, IsActiveWhere, AllActive, HasShape, GoesOn, KeepsAsked, KeepsLeft, IsSaid}
+use Rattle.mu_rounds.specs.Rounds.{rest_of, chunks_left, queue_of, client_of, LeftFits, AllWant, IsActiveWhere, AllActive, HasShape, GoesOn, KeepsAsked, KeepsLeft, IsSaid}
 use Rattle.mu_rounds.specs.Sents.{sents_of}
-use Rattle.mu_rounds.specs.Time.{HasSize, left_at, left_after, SendsOn, KeepsPlace, Keeps, StoodSo, GoesBack, IsBack}
+use Rattle.mu_rounds.specs.Time.{HasSize, left_at, left_after, SendsOn, Keeps, StoodSo, GoesBack, IsBack}
 use Rattle.mu_rounds.specs.declared.said.Sent.{Sent}
 use Rattle.mu_rounds.specs.declared.left.Left.{Left}
 use Rattle.mu_rounds.specs.declared.rounds.Rounds.{Rounds}
 use Rattle.mu_rounds.specs.declared.time.Stood.{Stood}
-use Rattle.mu_rounds.proofs.Lists.{each_map, each_flat, each_so, each_then, each_written, few_written, refilled, receivers_stay, key_of, key_same, keys_stay, rest_same}
+use Rattle.mu_rounds.proofs.Lists.{each_map, each_flat, each_then, each_written, few_written, refilled, receivers_stay, key_of, key_same, rest_same}
 use Rattle.mu_rounds.proofs.Stepping.{client_same, none_some, some_same, no_number, queue_is, listed_stays, messages_kept, rest_stays}
 
 -- ---- lists that are kept

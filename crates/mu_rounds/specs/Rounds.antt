@@ -1,5 +1,5 @@
 -- A machine of rounds as the model's client.
-use Rattle.std.specs.Prelude.{ℕ, ◌≡◌, ◌≤◌, ◌<◌, ◌++◌, Bool, true, false, List, [], map, length, Option, Some, None, IfSome, slice_index_or}
+use Rattle.std.specs.Prelude.{ℕ, ◌≡◌, ◌≤◌, ◌<◌, ◌++◌, Bool, true, false, List, [], map, length, Option, Some, None, slice_index_or}
 use Rattle.mu_model_client.specs.declared.Sending.{Sending}
 use Rattle.mu_model_client.specs.Client.{Purpose, Step, Chunks, Pull, Get, Place, At, Verified, Ended, Receiver, Item, Client, is_active, block_total, chunk_total}
 use Rattle.mu_model_client.specs.Lists.{sent_for}
@@ -9,7 +9,7 @@ use Rattle.mu_receivers.specs.Messages.{listed, messages_left}
 use Rattle.mu_receivers.specs.Chunks.{rest}
 use Rattle.mu_receivers.specs.Slots.{Each, KeepsWas, AreFew}
 use Rattle.mu_receivers.specs.declared.slot.Slot.{Slot}
-use Rattle.mu_told.specs.Told.{IsSendable, StepFits, WantsOf}
+use Rattle.mu_told.specs.Told.{IsSendable, WantsOf}
 use Rattle.mu_rounds.specs.After.{PlaceFits, block_at}
 use Rattle.mu_rounds.specs.Sents.{sents_of}
 use Rattle.mu_rounds.specs.declared.said.Sent.{Sent}

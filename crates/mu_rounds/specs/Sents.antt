@@ -4,7 +4,7 @@ use Rattle.mu_model_node.specs.BlobMessages.{BlobInformationGet, BlockStart, Blo
 use Rattle.mu_model_node.specs.UpdateMessages.{InformationGet, MetadataCheck, StartUpdate, UpdateGet, UpdateApply, UpdateCancel}
 use Rattle.mu_model_node.specs.NodeMessages.{Request, OfUpdate, OfBlob}
 use Rattle.mu_model_client.specs.declared.Sending.{Sending}
-use Rattle.mu_model_client.specs.Client.{Purpose, Step, Chunks}
+use Rattle.mu_model_client.specs.Client.{Purpose}
 use Rattle.mu_model_client.specs.Lists.{metadata_of, transfer_message}
 use Rattle.mu_rounds.specs.declared.said.Said.{Said}
 use Rattle.mu_rounds.specs.declared.said.Said.TheVariants as said

@@ -1,5 +1,5 @@
 -- What a time event makes of a machine of rounds: it goes on, sends the first of its list, or is taken back whole.
-use Rattle.std.specs.Prelude.{ℕ, ◌≡◌, drop, Option, IfSome, length}
+use Rattle.std.specs.Prelude.{◌≡◌, drop, Option, IfSome, length}
 use Rattle.std.specs.Option.{option_map}
 use Rattle.mu_model_client.specs.declared.Sending.{Sending}
 use Rattle.mu_model_client.specs.Going.{most_packets}

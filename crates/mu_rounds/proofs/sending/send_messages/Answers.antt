@@ -1,4 +1,4 @@
-use Rattle.std.proofs.Common.{[], ◌≡◌, ◌∙◌, ap, sym, subst, arith, map, take, get_or}
+use Rattle.std.proofs.Common.{[], ◌∙◌, ap, sym, subst, arith, map, take}
 use Rattle.std.proofs.lemmas.Grind.{common_steps}
 use Rattle.std.proofs.lemmas.List.{take_all}
 use Rattle.mu_model_client.specs.Lists.{sent_for}

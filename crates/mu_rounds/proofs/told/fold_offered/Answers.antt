@@ -1,4 +1,4 @@
-use Rattle.std.proofs.Common.{◌∙◌, sym}
+use Rattle.std.proofs.Common.{◌∙◌}
 use Rattle.mu_rounds.specs.Told.{update_reply_of}
 use Rattle.mu_rounds.proofs.Telling.{offered_counts}
 use Rattle.mu_rounds.proofs.told.fold_offered.Goals as goal

@@ -1,4 +1,3 @@
-use Rattle.std.proofs.Common.{refl}
 use Rattle.mu_rounds.proofs.Stepping.{goes_as, begins_so, ends_so}
 use Rattle.mu_rounds.proofs.rounds.Rounds.begin_if_any.Goals as goal
 
