@@ -1,0 +1,4 @@
+pub mod Suits
+pub mod Views
+pub mod Runs
+pub mod Whole
