@@ -206,7 +206,7 @@ rest_none address s (PacketComes packet) now rest none =
     ]
 rest_none address s TimeComes now rest none = ap (λ (c : Option Client). counted_waited s (max s.moment now) c) none
 
-no_client : (s : DistState) → is_at_rest s.durable.phase ≡ true → IsDistState s → s.client ≡ None
+pub no_client : (s : DistState) → is_at_rest s.durable.phase ≡ true → IsDistState s → s.client ≡ None
 no_client s rest h = subst (λ b. HasClient b s.durable.receivers s.progress s.client) rest h.client
 
 -- ---- events
@@ -247,7 +247,7 @@ module _ (laws : DistLaws) where
       (busy_same address s.durable (dist_step address s TimeComes now).next.durable TimeComes busy (laws.moves address s TimeComes now fits h.sound h.planned))
       (laws.exact address s TimeComes now fits h.sound h.planned busy)
 
-  rest_same : (d e : DistDurable) → (d.phase ≡ Idle → ⊥) → e.counter ≡ d.counter → RestMoves d e → e.receivers ≡ d.receivers
+  pub rest_same : (d e : DistDurable) → (d.phase ≡ Idle → ⊥) → e.counter ≡ d.counter → RestMoves d e → e.receivers ≡ d.receivers
   rest_same d e not_idle same (rest_begins counter) = absurd (above d.counter e.counter counter same)
   rest_same d e not_idle same (rest_adds entries idle still counter receivers) = absurd (not_idle idle)
   rest_same d e not_idle same (rest_empties idle still counter receivers) = absurd (not_idle idle)
@@ -288,7 +288,7 @@ none_of : (old : DistDurable) (operations : ℕ) → slice_index_or (old ∷ [])
 none_of old zero = refl
 none_of old (suc operations) = refl
 
-not_last : (fresh : ℕ) (old new : DistDurable) (work : FlashWork) (operations : ℕ) → (operations ≡ length (work_by fresh old new work) → ⊥) → slice_index_or (old ∷ work_by fresh old new work) operations old ≡ old
+pub not_last : (fresh : ℕ) (old new : DistDurable) (work : FlashWork) (operations : ℕ) → (operations ≡ length (work_by fresh old new work) → ⊥) → slice_index_or (old ∷ work_by fresh old new work) operations old ≡ old
 not_last fresh old new Untouched operations h = none_of old operations
 not_last fresh old new (Recorded true) operations h = last_of old new 1 operations h
 not_last fresh old new (Recorded false) operations h =
@@ -343,7 +343,7 @@ module _ (laws : DistLaws) where
   boot_order : (address : ℕ) (d : DistDurable) → IsDistDurable d → IsInOrder address (restarted address d)
   boot_order address d h = record { sound = laws.boots address d h; planned = laws.boots_planned address d }
 
-  happening_order : (address : ℕ) (s : DistState) (h : Happening) → HappeningFits h → IsInOrder address s → IsInOrder address (happened address s h)
+  pub happening_order : (address : ℕ) (s : DistState) (h : Happening) → HappeningFits h → IsInOrder address s → IsInOrder address (happened address s h)
   happening_order address s (Done event now) fits order = record { sound = laws.keeps address s event now fits order.sound; planned = laws.plans address s event now fits order.sound order.planned }
   happening_order address s CutPower fits order = boot_order address s.durable order.sound.durable
   happening_order address s (Torn event now operations) fits order =
@@ -411,7 +411,7 @@ module _ (laws : DistLaws) where
   rest_happening address s (Torn event now operations) id offer fits h rest not_idle same =
       rest_torn address s event now operations id offer fits h rest not_idle same (operations == length (dist_work address s event now)) refl
 
-  still_rests : (d e : DistDurable) → is_at_rest d.phase ≡ true → e.counter ≡ d.counter → (d.phase ≡ Idle → ⊥) → RestMoves d e → is_at_rest e.phase ≡ true
+  pub still_rests : (d e : DistDurable) → is_at_rest d.phase ≡ true → e.counter ≡ d.counter → (d.phase ≡ Idle → ⊥) → RestMoves d e → is_at_rest e.phase ≡ true
   still_rests d e rest same not_idle (rest_begins counter) = absurd (above d.counter e.counter counter same)
   still_rests d e rest same not_idle (rest_adds entries idle still counter receivers) = absurd (not_idle idle)
   still_rests d e rest same not_idle (rest_empties idle still counter receivers) = absurd (not_idle idle)

@@ -31,17 +31,17 @@ pub record Keeps (before after : Receiver) : Type 0 where
   pub transfer : after.row.transfer_status ≡ before.row.transfer_status
   pub standing : (after.standing ≡ before.standing) ⊎ IsNoStatus after.standing
 
-abbrev Kept : List Receiver → List Receiver → Type 0
+abbrev pub Kept : List Receiver → List Receiver → Type 0
 Kept rs ss = Each Keeps rs ss
 
 same : (r : Receiver) → Keeps r r
 same r = record { update = refl; transfer = refl; standing = inl refl }
 
-kept_same : (rs : List Receiver) → Kept rs rs
+pub kept_same : (rs : List Receiver) → Kept rs rs
 kept_same [] = tt
 kept_same (r ∷ rs) = (same r, kept_same rs)
 
-kept_map : (f : Receiver → Receiver) → ((r : Receiver) → Keeps r (f r)) → (rs : List Receiver) → Kept rs (map f rs)
+pub kept_map : (f : Receiver → Receiver) → ((r : Receiver) → Keeps r (f r)) → (rs : List Receiver) → Kept rs (map f rs)
 kept_map f h [] = tt
 kept_map f h (r ∷ rs) = (h r, kept_map f h rs)
 
@@ -155,7 +155,7 @@ place_kept x (At step) = step_kept x step (is_done x step)
 place_kept x Verified = kept_same x.receivers
 place_kept x (Ended part) = kept_same x.receivers
 
-time_kept : (c : Client) (now : ℕ) → Kept c.receivers (going c now).next.receivers
+pub time_kept : (c : Client) (now : ℕ) → Kept c.receivers (going c now).next.receivers
 time_kept c now = place_kept (at_moment c now) c.place
 
 -- ---- a receiver

@@ -2,3 +2,4 @@ pub mod Folds
 pub mod Updaters
 pub mod Distributors
 pub mod Statuses
+pub mod DistributorStatuses

@@ -1,14 +1,15 @@
 //! Laws of the definitions: functions that do nothing, whose contracts are proved.
 
 ghost use Rattle.mu_model_row_folds.specs.Distributors.{DistributorRowsAreFolds, RowsBeginUnknown};
+ghost use Rattle.mu_model_row_folds.specs.DistributorStatuses.{DistributorDropsStand, DistributorStatusesAreFolds};
 ghost use Rattle.mu_model_row_folds.specs.Folds.{UnknownIsExactInRuns};
 ghost use Rattle.mu_model_row_folds.specs.Statuses.{DropsStandInRows};
 ghost use Rattle.mu_model_row_folds.specs.Updaters.{UpdaterRowsAreFolds};
 
 use mu_model_client_laws::laws::{clients_are_sound, drops_stay, plans_stay, rows};
 use mu_model_distributor_laws::laws::{
-    flash_work, rests_stand, rows_are_told, rows_move_by_cause, starts_are_offered,
-    states_are_sound,
+    flash_work, rests_stand, rows_are_told, rows_move_by_cause, runs_are_in_order,
+    starts_are_offered, states_are_sound,
 };
 use mu_model_rows::laws::{
     distributor_rows_are_exact, statuses_stand, time_is_exact, unknown_is_exact,
@@ -55,4 +56,22 @@ pub fn distributor_rows_are_folds()
     starts_are_offered();
     states_are_sound();
     distributor_rows_are_exact();
+}
+
+/// In each run of a distributor, over every cut, the status by which a receiver stands dropped stands in its row: as update status where an
+/// update message had it, as transfer status where a BLOB message or the BLOB information had it. While a distribution goes on, the statuses
+/// that are kept of a receiver are those of its drops, each put in its place when it came, and change by nothing else.
+pub fn distributor_drops_stand()
+    ensures stand { DistributorDropsStand }
+    ensures folds { DistributorStatusesAreFolds }
+{
+    statuses_stand();
+    rows_move_by_cause();
+    rows_are_told();
+    rests_stand();
+    flash_work();
+    starts_are_offered();
+    states_are_sound();
+    distributor_rows_are_exact();
+    runs_are_in_order();
 }
