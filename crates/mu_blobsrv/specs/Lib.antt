@@ -1,4 +1,6 @@
+pub mod Replies
 pub mod Suits
 pub mod Views
+pub mod Rows
 pub mod Runs
 pub mod Whole
