@@ -1,7 +1,7 @@
 -- What an event makes of a distributor's client and of the statuses that are kept.
 use Rattle.std.proofs.Common.{◌≡◌, ℕ, Bool, true, false, List, [], ◌∷◌, length, map, refl, sym, ap, subst, ◌∙◌, cond, Option, Some, None, Result, Ok, Err}
-use Rattle.std.specs.Prelude.{⊤, ◌==◌, not, nat_lt, nat_le, max, is_none}
-use Rattle.std.specs.List.{AllByRecursion, list_any, filter}
+use Rattle.std.specs.Prelude.{⊤, ◌==◌, not, nat_lt, nat_le, is_none}
+use Rattle.std.specs.List.{list_any}
 use Rattle.mu_model_image.specs.declared.Meta.{Meta}
 use Rattle.mu_model_node.specs.declared.Link.{Link}
 use Rattle.mu_model_node.specs.declared.Link.TheVariants.{Cut, Ready, Running}
@@ -21,18 +21,18 @@ use Rattle.mu_model_distributor.specs.declared.DistPhase.TheVariants.{Idle, Tran
 use Rattle.mu_model_distributor.specs.Requests.{Entry, UploadStart, DistRequest, ReceiversAdd, ReceiversDeleteAll, ReceiversGet, CapabilitiesGet, DistributionGet, DistributionStart, DistributionSuspend, DistributionCancel, DistributionApply, UploadGet, StartUpload, StartUploadOob, UploadCancel, FirmwareGet, FirmwareGetByIndex, FirmwareDelete, FirmwareDeleteAll}
 use Rattle.mu_model_distributor.specs.Replies.{DistReply}
 use Rattle.mu_model_distributor.specs.DistMessages.{Taken, OfDistribution, OfBlob, OfReceiver, taken_at, Sent}
-use Rattle.mu_model_distributor.specs.DistState.{StoredImage, UploadJob, Upload, NoUpload, Uploading, Broken, Uploaded, run_upload, DistState, is_at_rest, server_of, offered, receiver_of, rows_of}
+use Rattle.mu_model_distributor.specs.DistState.{UploadJob, Upload, NoUpload, Uploading, Broken, Uploaded, run_upload, DistState, is_at_rest, server_of, offered, receiver_of, rows_of}
 use Rattle.mu_model_distributor.specs.Commit.{recorded_if, committed, ends, answered}
 use Rattle.mu_model_distributor.specs.Receivers.{added, is_idle, empty_banks, receivers_status, receivers_add, receivers_delete_all}
-use Rattle.mu_model_distributor.specs.Distribution.{plan_of, stage_in, with_client, in_phase, at_rest, are_settings, is_uploading, last_counter, next_distribution, begins, resumes, distribution_status, distribution_start, distribution_suspend, cancels, distribution_cancel, applies, distribution_apply}
+use Rattle.mu_model_distributor.specs.Distribution.{plan_of, stage_in, with_client, in_phase, at_rest, are_settings, is_uploading, last_counter, next_distribution, begins, distribution_status, distribution_start, distribution_suspend, cancels, distribution_cancel, applies, distribution_apply}
 use Rattle.mu_model_distributor.specs.Uploads.{with_session, offered_meta, same_upload_start, has_image, takes_in, takes_or_resumes, offers, upload_status, upload_start, upload_cancel}
-use Rattle.mu_model_distributor.specs.Firmware.{has_id, index_of, with_images, is_in_upload, no_index, firmware_status, firmware_delete, firmware_delete_all}
+use Rattle.mu_model_distributor.specs.Firmware.{index_of, is_in_upload, no_index, firmware_status, firmware_delete, firmware_delete_all}
 use Rattle.mu_model_distributor.specs.DistTable.{by_blob, on_request, blob_changed, hears, on_taken}
 use Rattle.mu_model_distributor.specs.DistTime.{is_whole, verified, verifies, broken_by, server_waits, has_phase, goes_on_by, goes_on, has_verified, advanced, after_turn, octets_of, has_turns, client_turns, client_waits, waits, on_time}
 use Rattle.mu_model_distributor.specs.DistEvents.{passed_over, at_moment, on_packet, on_event, dist_step}
 use Rattle.mu_model_distributor.specs.Sound.{HasClient, IsDistState}
 use Rattle.mu_model_rows.specs.Clients.{Each, StatusesStand}
-use Rattle.mu_model_row_folds.specs.DistributorStatuses.{both_kept, StandsInPlace, AllStandInPlace, DropsStandIn, placed_each, placed_by}
+use Rattle.mu_model_row_folds.specs.DistributorStatuses.{both_kept, AllStandInPlace, DropsStandIn, placed_each, placed_by}
 use Rattle.mu_model_row_folds.proofs.Statuses.{Keeps, kept_same, kept_map, time_kept}
 use Rattle.mu_model_row_folds.proofs.Placed.{told_all, both_row, told_placed, kept_all, kept_both, canceled_keeps, begun_stand, kept_rows, own_kept}
 

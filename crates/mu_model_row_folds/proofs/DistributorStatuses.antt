@@ -1,5 +1,5 @@
 -- The statuses of drops, over whole runs of a distributor.
-use Rattle.std.proofs.Common.{◌≡◌, ◌≤◌, ℕ, Bool, true, false, List, [], ◌∷◌, length, map, refl, sym, ap, subst, ◌∙◌, cond, Option, Some, None}
+use Rattle.std.proofs.Common.{◌≡◌, ℕ, Bool, true, false, List, [], ◌∷◌, length, map, refl, sym, ap, subst, ◌∙◌, cond, Option, None}
 use Rattle.std.specs.Prelude.{◌==◌}
 use Rattle.std.specs.List.{AllByRecursion}
 use Rattle.std.proofs.lemmas.Bool.{eqb-true, eq-eqb}
@@ -11,7 +11,7 @@ use Rattle.mu_model_distributor.specs.Distribution.{plan_of, stage_in}
 use Rattle.mu_model_distributor.specs.DistState.{Receiver, DistDurable, DistState, is_at_rest, rows_by, no_progress}
 use Rattle.mu_model_distributor.specs.DistEvents.{at_moment, dist_step, dist_work, restarted, live}
 use Rattle.mu_model_distributor.specs.Runs.{happened, left_after, state_after}
-use Rattle.mu_model_distributor.specs.Sound.{IsDistDurable, IsDistState}
+use Rattle.mu_model_distributor.specs.Sound.{IsDistState}
 use Rattle.mu_model_distributor_laws.specs.Laws.{EventFits}
 use Rattle.mu_model_distributor_laws.specs.RunLaws.{HappeningFits, IsInOrder, RunsAreInOrder}
 use Rattle.mu_model_rows.specs.Clients.{StatusesStand}

@@ -6,13 +6,13 @@ use Rattle.mu_model_client.specs.declared.Dropped.TheVariants.{Silent, Status, B
 use Rattle.mu_model_client.specs.declared.Plan.{Plan}
 use Rattle.mu_model_client.specs.declared.Stage.{Stage}
 use Rattle.mu_model_client.specs.Begin.{goes_on_with, resumed, canceled}
-use Rattle.mu_model_client.specs.Client.{Step, Check, Start, Information, Transfer, Block, Chunks, Pull, Get, Verify, Apply, Confirm, Cancel, step_number, Standing, Idle, Active, Gone, row_of as row_in, Receiver as ClientReceiver, Client, rows}
+use Rattle.mu_model_client.specs.Client.{Step, Check, Start, Information, Transfer, Block, Chunks, Pull, Get, Verify, Apply, Confirm, Cancel, step_number, Standing, Idle, Active, Gone, row_of as row_in, Receiver as ClientReceiver, Client}
 use Rattle.mu_model_client.specs.Rows.{Row, rank, with_phase, transfer_canceled}
 use Rattle.mu_model_distributor.specs.DistState.{Receiver, receiver_of}
 use Rattle.mu_model_distributor.specs.Distribution.{begun_at}
 use Rattle.mu_model_distributor.specs.Sound.{HasClient}
 use Rattle.mu_model_rows.specs.Clients.{Each, IsUpdateStep, IsBlobStep, IsNoStatus, StatusStands, as_before, by_update, by_transfer, by_none}
-use Rattle.mu_model_row_folds.specs.DistributorStatuses.{both_in, both_kept, is_of_update, placed, StandsInPlace, AllStandInPlace, DropsStandIn, placed_each, placed_by}
+use Rattle.mu_model_row_folds.specs.DistributorStatuses.{both_in, both_kept, is_of_update, placed, StandsInPlace, DropsStandIn, placed_each, placed_by}
 use Rattle.mu_model_row_folds.proofs.Statuses.{Keeps}
 
 -- ---- a receiver

@@ -76,4 +76,4 @@ DistributorStatusesAreFolds =
     → AllByRecursion HappeningFits before → AllByRecursion HappeningFits hs → IsOne address (state_after address (live address d fresh) before) hs
     → map both_kept (state_after address (state_after address (live address d fresh) before) hs).durable.receivers
     ≡ placed_in address (state_after address (live address d fresh) before) hs
-      (map both_kept (state_after address (live address d fresh) before).durable.receivers)
+    (map both_kept (state_after address (live address d fresh) before).durable.receivers)
