@@ -1,0 +1,4 @@
+pub mod Asked
+pub mod Written
+pub mod Decided
+pub mod Deleted

@@ -1,0 +1,12 @@
+use Rattle.std.proofs.Common.{List, Some, ap}
+use Rattle.mu_model_distributor.specs.Requests.{Entry, DistRequest, ReceiversAdd}
+use Rattle.mu_distributor_answers.proofs.Asked.{entries_are, start_is}
+use Rattle.mu_distributor_answers.proofs.reading.request_of.Goals as goal
+
+pub returns-in-ReceiversAdd-clause-asks : goal.returns-in-ReceiversAdd-clause-asks
+returns-in-ReceiversAdd-clause-asks c = rw c.in-ReceiversAdd.is (ap (λ (l : List Entry). Some (ReceiversAdd l)) (entries_are c.in-ReceiversAdd.entries.items))
+
+pub returns-in-DistributionStart-clause-asks : goal.returns-in-DistributionStart-clause-asks
+returns-in-DistributionStart-clause-asks c =
+    rw (c.in-DistributionStart.is, c.settings_to.ensures)
+    (start_is c.in-DistributionStart.appkey c.in-DistributionStart.ttl c.in-DistributionStart.base c.in-DistributionStart.mode c.in-DistributionStart.policy c.in-DistributionStart.image c.in-DistributionStart.label c.in-DistributionStart.group)

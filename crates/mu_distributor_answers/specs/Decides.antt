@@ -1,0 +1,21 @@
+-- When a step is what the table says for a request, over what is looked at (MshDFU, Firmware Distribution Server behavior).
+use Rattle.std.specs.Prelude.{ℕ, Bool, true, false, List, Result, Ok, Err}
+use Rattle.std.specs.Borrow.{Bor}
+use Rattle.mu_distmsg.specs.declared.message.ReceiverRow.{ReceiverRow}
+use Rattle.mu_model_distributor.specs.Requests.{DistRequest}
+use Rattle.mu_model_distributor.specs.DistState.{DistState}
+use Rattle.mu_distributor_rows.specs.declared.looks.DistLook.{DistLook}
+use Rattle.mu_distributor_rows.specs.Due.{IsDueIn}
+use Rattle.mu_distributor_rows.specs.Looks.{LooksAs}
+use Rattle.mu_distributor_rows.specs.Receivers.{AreRowsOf}
+use Rattle.mu_distributor_answers.specs.declared.steps.Decision.{Decision}
+use Rattle.mu_distributor_answers.specs.Fits.{IsKnownStep}
+use Rattle.mu_distributor_answers.specs.Steps.{stepped, KeepsRows, ComesTo}
+
+-- for every model distributor that looks so and has these receivers, the request comes to the step, and a record is due exactly where
+-- what is kept would be another
+pub record Decides (look : DistLook) (old new : List ReceiverRow) (request : DistRequest) (d : Decision) : Type 0 where
+  pub known : IsKnownStep d.step
+  pub keeps : KeepsRows d.step old new
+  pub step : (address : ℕ) (s : DistState) → LooksAs look s → AreRowsOf old s → ComesTo address s request new d.step
+  pub due : (address : ℕ) (s : DistState) → LooksAs look s → AreRowsOf old s → IsDueIn d.due s (stepped address s new d.step)
