@@ -42,6 +42,8 @@ each_record = record {
   short_there = refl;
   none_short = refl;
   last_octet = refl;
+  tag_less = λ h. (let e : 1791 ≡ 1792 = h.tag_size in absurd (omega (arith, e)));
+  tag_more = λ h. (let e : 1793 ≡ 1792 = h.tag_size in absurd (omega (arith, e)));
   short_operations = refl;
   long_operations = refl;
   first_leaves_old = refl;

@@ -6,7 +6,7 @@ use Rattle.mu_model_record.specs.Code.{coded, is_code, content_of}
 use Rattle.mu_model_record.specs.Kinds.{NotBefore}
 use Rattle.mu_model_record.specs.Next.{is_short, record_steps, fresh_after, block_steps}
 use Rattle.mu_model_record.specs.Page.{page_word, slot_word}
-use Rattle.mu_model_record.specs.Record.{IsSpelled, IsShort, capacity_of}
+use Rattle.mu_model_record.specs.Record.{IsSpelled, IsRecord, IsShort, capacity_of}
 use Rattle.mu_model_record.specs.Store.{StoreState, pages_of, mark_place, bank_place, block_place}
 
 -- ---- octets
@@ -67,6 +67,9 @@ pub record EachRecord : Type 0 where
   pub short_there : IsShort short_record
   pub none_short : is_short long_record ≡ false
   pub last_octet : is_short (of_tag (replicate 1791 0 ++ 1 ∷ [])) ≡ false
+  -- a tag has 1,792 octets, no fewer and no more
+  pub tag_less : IsRecord (of_tag (replicate 1791 9)) → ⊥
+  pub tag_more : IsRecord (of_tag (replicate 1793 9)) → ⊥
   -- a short one goes into the next slot, where there is one; else the other page is erased
   pub short_operations : map (operations short_record) (0 ∷ 1 ∷ 2 ∷ 3 ∷ []) ≡ 2 ∷ 1 ∷ 1 ∷ 1 ∷ []
   pub long_operations : map (operations long_record) (0 ∷ 1 ∷ 2 ∷ 3 ∷ []) ≡ 2 ∷ 2 ∷ 2 ∷ 2 ∷ []
