@@ -1,7 +1,6 @@
 -- What messages ask for is what the model reads of them.
 use Rattle.std.proofs.Common.{◌≡◌, ℕ, List, [], ◌∷◌, map, Option, Some, None, refl, ap}
-use Rattle.mu_model_distributor.specs.declared.Settings.{Settings}
-use Rattle.mu_model_distributor.specs.Requests.{Entry, DistRequest, ReceiversAdd, DistributionStart, entry_of, dist_request_of}
+use Rattle.mu_model_distributor.specs.Requests.{Entry, DistributionStart, entry_of, dist_request_of}
 use Rattle.mu_distmsg.specs.declared.message.DistMsg.TheVariants.{DistributionStart as StartMessage}
 use Rattle.mu_distmsg.specs.View.{view, pair_shown}
 use Rattle.mu_distributor_rows.specs.Receivers.{entry_of_pair, entries_of}

@@ -1,17 +1,12 @@
 -- The rows' steps are the table's.
-use Rattle.std.proofs.Common.{◌≡◌, ◌∙◌, ◌≤◌, ℕ, Bool, true, false, List, [], Option, Some, None, Result, Ok, Err, refl, sym, ap}
+use Rattle.std.proofs.Common.{◌≡◌, ◌∙◌, ◌≤◌, ℕ, Bool, true, List, [], Some, None, Result, Ok, Err, refl, sym, ap}
 use Rattle.std.specs.Prelude.{IfErr, OnErr}
 use Rattle.std.specs.Borrow.{Bor}
 use Rattle.mu_distmsg.specs.declared.message.ReceiverRow.{ReceiverRow}
-use Rattle.mu_model_distributor.specs.declared.Settings.{Settings}
-use Rattle.mu_model_distributor.specs.declared.DistPhase.{DistPhase}
-use Rattle.mu_model_distributor.specs.Requests.{DistRequest, ReceiversAdd, ReceiversDeleteAll, DistributionStart, StartUpload, UploadCancel, FirmwareDelete, FirmwareDeleteAll}
-use Rattle.mu_model_distributor.specs.Replies.{DistReply}
+use Rattle.mu_model_distributor.specs.Requests.{DistRequest, FirmwareDelete, FirmwareDeleteAll}
 use Rattle.mu_model_distributor.specs.DistState.{DistState}
-use Rattle.mu_model_distributor.specs.Commit.{Outcome, answered}
+use Rattle.mu_model_distributor.specs.Commit.{answered}
 use Rattle.mu_model_distributor.specs.DistTable.{on_request}
-use Rattle.mu_model_distributor.specs.Receivers.{receivers_status}
-use Rattle.mu_model_distributor.specs.Distribution.{distribution_status}
 use Rattle.mu_model_distributor.specs.Firmware.{no_index, firmware_status, firmware_delete, firmware_delete_all, with_images}
 use Rattle.mu_distributor_rows.specs.declared.looks.DistLook.{DistLook}
 use Rattle.mu_distributor_rows.specs.declared.distribution.DistributionStep.{DistributionStep}
@@ -20,11 +15,10 @@ use Rattle.mu_distributor_rows.specs.Fits.{IsKnown}
 use Rattle.mu_distributor_rows.specs.Looks.{Seen, LooksAs}
 use Rattle.mu_distributor_rows.specs.Receivers.{AreRowsOf, with_rows, rows_stepped}
 use Rattle.mu_distributor_rows.specs.Rows.{distribution_stepped, deleted, all_deleted}
-use Rattle.mu_distributor_answers.specs.declared.steps.DistStep.{DistStep}
-use Rattle.mu_distributor_answers.specs.declared.steps.DistStep.TheVariants.{Tell, Receivers, Distribution, Upload, CancelUpload, DeleteImages, DeleteAllImages}
-use Rattle.mu_distributor_answers.specs.Steps.{stepped, shown_to, ComesTo}
+use Rattle.mu_distributor_answers.specs.declared.steps.DistStep.TheVariants.{Receivers, DeleteAllImages}
+use Rattle.mu_distributor_answers.specs.Steps.{shown_to}
 use Rattle.mu_distributor_answers.specs.Decides.{Decides}
-use Rattle.mu_distributor_answers.specs.Decisions.{tells, changes_by, deletes, distributes}
+use Rattle.mu_distributor_answers.specs.Decisions.{changes_by, deletes, distributes}
 
 pub phase_looks : (look : DistLook) (s : DistState) → LooksAs look s → s.durable.phase ≡ look.phase
 phase_looks look s looks = sym (ap (λ (v : Seen). v.phase) looks.same)

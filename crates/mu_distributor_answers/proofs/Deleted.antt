@@ -1,7 +1,6 @@
 -- What a deletion leaves, image by image.
 use Rattle.std.proofs.Common.{◌≡◌, ◌∙◌, ◌≤◌, ◌<◌, ◌+◌, ℕ, Bool, true, false, List, [], ◌∷◌, ◌++◌, length, map, take, get_or, refl, sym, ap, subst, cond, arith, append-nil, length-append}
 use Rattle.std.specs.Prelude.{not}
-use Rattle.std.specs.List.{filter}
 use Rattle.std.proofs.lemmas.List.{length-map, get_or-map, get_or-take, take_more, take_all}
 use Rattle.mu_model_image.specs.declared.Meta.{Meta}
 use Rattle.mu_model_distributor.specs.DistState.{StoredImage}

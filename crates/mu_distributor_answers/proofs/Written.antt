@@ -10,7 +10,7 @@ use Rattle.mu_distmsg.specs.declared.message.DistMsg.{DistMsg}
 use Rattle.mu_distmsg.specs.declared.message.DistMsg.TheVariants.{ReceiversList}
 use Rattle.mu_distmsg.specs.View.{view, row_shown, RowIsEven, IsEven, InRange}
 use Rattle.mu_distributor_rows.specs.Receivers.{row_here}
-use Rattle.mu_distributor_rows.specs.Replies.{IsListedRow, AreListed}
+use Rattle.mu_distributor_rows.specs.Replies.{AreListed}
 
 pub rows_shown : (rows : List ReceiverRow) → map row_shown rows ≡ map row_of_model (map row_here rows)
 rows_shown [] = refl

@@ -1,6 +1,5 @@
 -- When a step is what the table says for a request, over what is looked at (MshDFU, Firmware Distribution Server behavior).
-use Rattle.std.specs.Prelude.{ℕ, Bool, true, false, List, Result, Ok, Err}
-use Rattle.std.specs.Borrow.{Bor}
+use Rattle.std.specs.Prelude.{ℕ, List}
 use Rattle.mu_distmsg.specs.declared.message.ReceiverRow.{ReceiverRow}
 use Rattle.mu_model_distributor.specs.Requests.{DistRequest}
 use Rattle.mu_model_distributor.specs.DistState.{DistState}

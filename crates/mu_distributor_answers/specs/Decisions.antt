@@ -2,12 +2,10 @@
 use Rattle.std.specs.Prelude.{ℕ, Bool, true, false, List, Result, Ok, Err}
 use Rattle.std.specs.Borrow.{Bor}
 use Rattle.mu_distributor_rows.specs.declared.distribution.DistributionStep.{DistributionStep}
-use Rattle.mu_distributor_rows.specs.declared.uploads.UploadStart.{UploadStart}
-use Rattle.mu_distributor_rows.specs.declared.uploads.UploadStep.{UploadStep}
 use Rattle.mu_distributor_rows.specs.Due.{changes}
 use Rattle.mu_distributor_answers.specs.declared.steps.Decision.{Decision}
 use Rattle.mu_distributor_answers.specs.declared.steps.DistStep.{DistStep}
-use Rattle.mu_distributor_answers.specs.declared.steps.DistStep.TheVariants.{Tell, Receivers, Distribution, Upload, CancelUpload, DeleteImages, DeleteAllImages}
+use Rattle.mu_distributor_answers.specs.declared.steps.DistStep.TheVariants.{Tell, Distribution, DeleteImages}
 
 abbrev pub tells : ℕ → Decision
 tells status = record { step = Tell status; due = false }

@@ -1,5 +1,5 @@
 -- What a request comes to: the state that its step leads to or the status that refuses it, and its answer over what stands then.
-use Rattle.std.specs.Prelude.{◌≡◌, ℕ, [], Bool, List, Option, Some, None, Result, Ok, Err}
+use Rattle.std.specs.Prelude.{◌≡◌, ℕ, [], List, Some, None, Result, Ok, Err}
 use Rattle.mu_distmsg.specs.declared.message.ReceiverRow.{ReceiverRow}
 use Rattle.mu_model_distributor.specs.Requests.{DistRequest, ReceiversAdd, ReceiversDeleteAll, ReceiversGet, CapabilitiesGet, DistributionGet, DistributionStart, DistributionSuspend, DistributionCancel, DistributionApply, UploadGet, StartUpload, StartUploadOob, UploadCancel, FirmwareGet, FirmwareGetByIndex, FirmwareDelete, FirmwareDeleteAll}
 use Rattle.mu_model_distributor.specs.Replies.{DistReply}
@@ -14,7 +14,6 @@ use Rattle.mu_distributor_rows.specs.declared.distribution.DistributionStep.{Dis
 use Rattle.mu_distributor_rows.specs.declared.distribution.DistributionStep.TheVariants.{Refuse}
 use Rattle.mu_distributor_rows.specs.declared.uploads.UploadStep.{UploadStep}
 use Rattle.mu_distributor_rows.specs.declared.uploads.UploadStep.TheVariants.{Refuse as RefuseUpload}
-use Rattle.mu_distributor_rows.specs.Due.{IsDueIn}
 use Rattle.mu_distributor_rows.specs.Receivers.{with_rows}
 use Rattle.mu_distributor_rows.specs.Messages.{upload_start_of}
 use Rattle.mu_distributor_rows.specs.Rows.{upload_stepped, deleted, distribution_stepped}

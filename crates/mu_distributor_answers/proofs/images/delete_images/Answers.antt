@@ -1,4 +1,4 @@
-use Rattle.std.proofs.Common.{ℕ, List, refl, sym, subst, arith}
+use Rattle.std.proofs.Common.{ℕ, List, sym, subst, arith}
 use Rattle.mu_distributor_answers.proofs.Deleted.{Keeping, none_kept, turned, all_kept}
 use Rattle.mu_distributor_answers.proofs.images.delete_images.Goals as goal
 

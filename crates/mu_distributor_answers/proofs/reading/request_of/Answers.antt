@@ -1,5 +1,5 @@
 use Rattle.std.proofs.Common.{List, Some, ap}
-use Rattle.mu_model_distributor.specs.Requests.{Entry, DistRequest, ReceiversAdd}
+use Rattle.mu_model_distributor.specs.Requests.{Entry, ReceiversAdd}
 use Rattle.mu_distributor_answers.proofs.Asked.{entries_are, start_is}
 use Rattle.mu_distributor_answers.proofs.reading.request_of.Goals as goal
 
