@@ -1,2 +1,6 @@
+pub mod Answered
 pub mod Quiet
 pub mod Suited
+pub mod Told
+pub mod Came
+pub mod Work

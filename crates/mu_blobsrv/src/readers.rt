@@ -12,7 +12,7 @@ ghost use Rattle.mu_block.specs.Coming.{chunks_of};
 ghost use Rattle.mu_record.specs.Reads.{ReadsOnly};
 ghost use Rattle.mu_blob_session.specs.Blocks.{is_cut_link};
 ghost use Rattle.mu_place.specs.Place.{place_seen, place_record, place_held, PlaceHolds};
-ghost use Rattle.mu_kept.specs.Views.{job_in, expect_of, has_parameters, flags_in};
+ghost use Rattle.mu_kept.specs.Views.{job_in, expect_of, has_parameters, flags_in, serving_in, fills_in, is_whole};
 ghost use Rattle.mu_kept.specs.Shows.{Shows};
 ghost use Rattle.mu_kept.specs.Calls.{note_in, IsSameStore};
 ghost use Rattle.mu_blobsrv.specs.Views.{store_of, place_of, fault_of, session_of, coming_of, server_of};
@@ -72,6 +72,22 @@ impl<F: Flash> BlobServer<F> {
         ensures { result ≡ has_parameters (job_in (store_of self.now)) }
     {
         self.store.has_parameters()
+    }
+
+    /// Whether the job's bank is being filled. No fault is kept.
+    pub fn fills(&self) -> bool
+        requires { fault_of self.now ≡ None }
+        ensures { result ≡ fills_in (store_of self.now) }
+    {
+        self.store.fills()
+    }
+
+    /// Whether there is a job of which each block is held. No fault is kept.
+    pub fn is_whole(&self) -> bool
+        requires { fault_of self.now ≡ None }
+        ensures { result ≡ is_whole (serving_in (store_of self.now)) }
+    {
+        self.store.is_whole()
     }
 
     /// Whether the link is Cut. No fault is kept.
