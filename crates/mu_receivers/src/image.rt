@@ -32,6 +32,7 @@ pub trait ImageBytes {
 }
 
 /// An image in memory, which never fails.
+#[derive(Drop)]
 pub struct SliceImage<'a> {
     bytes: &'a [u8],
     ghost few: { length bytes.now ≤ 2 ^ 20 },
@@ -70,6 +71,7 @@ impl<'a> ImageBytes for SliceImage<'a> {
 }
 
 /// An image in memory, of which the reads with these numbers fail. Reads are numbered from 1.
+#[derive(Drop)]
 pub struct FaultyImage<'a> {
     bytes: &'a [u8],
     fails: &'a [u32],
