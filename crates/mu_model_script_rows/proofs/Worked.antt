@@ -9,11 +9,11 @@ use Rattle.mu_model_script_rows.specs.Images.{EachImage}
 
 pub lines : EachLine
 unfolding value_at decode_pairs encode_with digits
-lines = record { read = refl; refused = refl; nothing = refl; comment = refl; sign = refl; longest_comment = refl; long_comment = refl; long_line = refl; longest_line = refl; carriage_return = refl; long_image = refl; long_payload = refl }
+lines = record { read = refl; refused = refl; nothing = refl; comment = refl; sign = refl; longest_comment = refl; long_comment = refl; long_line = refl; longest_line = refl; carriage_return = refl; long_image = refl; long_payload = refl; longest_image = refl; longest_payload = refl; most_receivers = refl; receiver_129 = refl }
 
 pub texts : EachText
 unfolding decode_pairs encode_with digits
-texts = record { lines = refl; last_ended = refl; none = refl; one_empty = refl; sent = refl; unread = refl; active = refl; boot = refl; phase = refl; ended = refl; not_ended = refl; row = refl; refused = refl; token = refl; long = refl; past_bank = refl; member = refl; packet = refl; premise = refl; octets = refl; all_lines = refl; turns = refl; in_line = refl }
+texts = record { lines = refl; last_ended = refl; none = refl; one_empty = refl; all_within = refl; last_within = refl; cut_there = refl; shown_long = refl; not_shown = refl; two_lines = refl; ended_by_feed = refl; sent = refl; unread = refl; active = refl; boot = refl; phase = refl; ended = refl; not_ended = refl; row = refl; refused = refl; token = refl; long = refl; past_bank = refl; member = refl; packet = refl; premise = refl; octets = refl; all_lines = refl; turns = refl; in_line = refl }
 
 pub images : EachImage
 unfolding sha256 digest_bytes hash_after compress rounds schedule first_words
