@@ -6,7 +6,7 @@ use Rattle.mu_model_image.specs.declared.Meta.{Meta}
 use Rattle.mu_model_distributor.specs.DistState.{StoredImage}
 use Rattle.mu_model_distributor.specs.Distribution.{no_meta}
 use Rattle.mu_model_distributor.specs.Firmware.{has_id}
-use Rattle.mu_model_represents.specs.RepresentsDistributor.{bank_of}
+use Rattle.mu_model_represents_distributor.specs.RepresentsDistributor.{bank_of}
 use Rattle.mu_distributor_rows.specs.Looks.{meta_of}
 use Rattle.mu_distributor_rows.specs.Decided.{has_id as meta_has_id}
 use Rattle.mu_distributor_answers.specs.Images.{AreImages, without_id}

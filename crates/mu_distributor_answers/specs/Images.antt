@@ -4,7 +4,7 @@ use Rattle.std.specs.List.{filter}
 use Rattle.mu_model_image.specs.declared.Meta.{Meta}
 use Rattle.mu_model_distributor.specs.DistState.{StoredImage}
 use Rattle.mu_model_distributor.specs.Firmware.{has_id}
-use Rattle.mu_model_represents.specs.RepresentsDistributor.{bank_of}
+use Rattle.mu_model_represents_distributor.specs.RepresentsDistributor.{bank_of}
 use Rattle.mu_distributor_rows.specs.Looks.{meta_of}
 
 pub record AreImages (places : List ℕ) (shown : List Meta) (images : List StoredImage) : Type 0 where

@@ -1,5 +1,5 @@
 ghost use Rattle.std.specs.Prelude.{◌≡◌};
-ghost use Rattle.mu_model_represents.specs.DistributorNote.{upload_phase_number};
+ghost use Rattle.mu_model_represents_distributor.specs.DistributorNote.{upload_phase_number};
 
 /// The phase of an upload (MshDFU, Upload Phase).
 #[derive(Clone, Copy, Debug, PartialEq, Eq)]

@@ -10,7 +10,7 @@ use Rattle.mu_model_record.specs.Record.{zeros}
 use Rattle.mu_model_distributor.specs.declared.DistPhase.{DistPhase}
 use Rattle.mu_model_distributor.specs.declared.DistPhase.TheVariants.{Idle, TransferActive, TransferSuccess, ApplyingUpdate, Completed, Failed, CancelingUpdate, TransferSuspended}
 use Rattle.mu_model_distributor.specs.DistState.{Receiver, dist_number}
-use Rattle.mu_model_represents.specs.DistributorNote.{UploadPhase, UploadIdle, UploadActive, UploadError, UploadSuccess, upload_phase_number, IsRow, SpellsReceiver, SpellsSettings, SpellsDistributor}
+use Rattle.mu_model_represents_distributor.specs.DistributorNote.{UploadPhase, UploadIdle, UploadActive, UploadError, UploadSuccess, upload_phase_number, IsRow, SpellsReceiver, SpellsSettings, SpellsDistributor}
 use Rattle.mu_model_stored_distributor.specs.DistributorIn.{phase_in, upload_in, settings_in, receiver_in, row_in, bank_in, note_in}
 use Rattle.mu_distributor_note.specs.Layout.{HasNumbers, HasZeros}
 use Rattle.mu_distributor_note.proofs.Octets.{zero_part, part_zero}

@@ -5,7 +5,7 @@ use borrow.Rule.Slice.PartMut.{put_mid}
 use Rattle.std.proofs.lemmas.List.{take_at, drop_at, take_more, flat_map_more}
 use Rattle.mu_distmsg.specs.declared.message.ReceiverRow.{ReceiverRow}
 use Rattle.mu_model_record.specs.Record.{zeros}
-use Rattle.mu_model_represents.specs.DistributorNote.{receiver_octets}
+use Rattle.mu_model_represents_distributor.specs.DistributorNote.{receiver_octets}
 use Rattle.mu_distributor_kept.specs.Views.{row_receiver, row_receivers}
 use Rattle.mu_distributor_note.proofs.Octets.{drop-zeros}
 

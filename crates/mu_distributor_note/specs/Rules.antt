@@ -5,7 +5,7 @@ use Rattle.mu_model_distributor.specs.declared.DistPhase.TheVariants.{Idle}
 use Rattle.mu_model_distributor.specs.DistState.{Receiver, is_at_rest}
 use Rattle.mu_model_distributor.specs.Sound.{AreSettings, no_settings, AreReceivers, AddressesDiffer}
 use Rattle.mu_model_represents.specs.Images.{AllDiffer}
-use Rattle.mu_model_represents.specs.DistributorNote.{DistributorNote, SpellsDistributor}
+use Rattle.mu_model_represents_distributor.specs.DistributorNote.{DistributorNote, SpellsDistributor}
 
 -- before the first distribution, and from then on
 pub record IsBegun (n : DistributorNote) : Type 0 where

@@ -1,7 +1,7 @@
 -- What is kept in memory of a note, as the definitions of its octets speak of it.
 use Rattle.std.specs.Prelude.{List}
 use Rattle.mu_distmsg.specs.declared.message.ReceiverRow.{ReceiverRow}
-use Rattle.mu_model_represents.specs.DistributorNote.{DistributorNote}
+use Rattle.mu_model_represents_distributor.specs.DistributorNote.{DistributorNote}
 use Rattle.mu_distributor_kept.specs.Views.{upload_phase, row_receivers}
 use Rattle.mu_distributor_note.specs.declared.note.NoteHead.{NoteHead}
 

@@ -2,7 +2,7 @@
 ghost use Rattle.std.specs.Prelude.{◌≡◌, ◌≤◌, [], map, IfOk, OnErr, length, slice_index};
 ghost use Rattle.std.specs.List.{range_with_len};
 ghost use Rattle.mu_model_image.specs.Meta.{meta_of};
-ghost use Rattle.mu_model_represents.specs.DistributorNote.{DistributorNote as NoteOfDistributor};
+ghost use Rattle.mu_model_represents_distributor.specs.DistributorNote.{DistributorNote as NoteOfDistributor};
 ghost use Rattle.mu_model_stored_distributor.specs.DistributorIn.{phase_in, upload_in, settings_in, receiver_in, row_in, bank_in, note_in};
 ghost use Rattle.mu_distributor_kept.specs.Views.{upload_phase, row_receiver, row_receivers};
 ghost use Rattle.mu_distributor_note.specs.Views.{distributor_note};

@@ -1,6 +1,6 @@
 // Whether octets are laid out as a distributor's note.
 ghost use Rattle.std.specs.Prelude.{◌≡◌, ◌↔◌, IsTrue, EachIndex, length, slice_index};
-ghost use Rattle.mu_model_represents.specs.DistributorNote.{SpellsDistributor};
+ghost use Rattle.mu_model_represents_distributor.specs.DistributorNote.{SpellsDistributor};
 ghost use Rattle.mu_distributor_note.specs.Layout.{HasNumbers, HasZeros};
 ghost use Rattle.mu_model_stored_distributor.specs.DistributorIn.{note_in};
 

@@ -3,7 +3,7 @@ ghost use Rattle.std.specs.Prelude.{◌≡◌, ◌++◌, ◌+◌, ◌-◌, ◌*�
 ghost use Rattle.std.specs.List.{flat_map};
 ghost use Rattle.mu_model_image.specs.Meta.{meta_octets};
 ghost use Rattle.mu_model_record.specs.Record.{zeros};
-ghost use Rattle.mu_model_represents.specs.DistributorNote.{receiver_octets, settings_octets, head_octets, distributor_octets};
+ghost use Rattle.mu_model_represents_distributor.specs.DistributorNote.{receiver_octets, settings_octets, head_octets, distributor_octets};
 ghost use Rattle.mu_distributor_kept.specs.Views.{row_receiver, row_receivers};
 ghost use Rattle.mu_distributor_note.specs.Views.{distributor_note};
 ghost use Rattle.mu_distributor_note.specs.Rules.{HasModeAndPolicy};

@@ -12,7 +12,7 @@ use Rattle.mu_model_distributor.specs.DistState.{StoredImage, Upload, NoUpload, 
 use Rattle.mu_model_distributor.specs.Receivers.{success, firmware_not_found, busy_with_distribution, busy_with_upload}
 use Rattle.mu_model_distributor.specs.Uploads.{own_id}
 use Rattle.mu_model_distributor.specs.Firmware.{no_index, has_id, index_from, index_of, firmware_status, firmware_found, firmware_get, firmware_at, firmware_get_by_index, with_images, is_in_upload, firmware_delete, firmware_delete_all}
-use Rattle.mu_model_represents.specs.RepresentsDistributor.{bank_of}
+use Rattle.mu_model_represents_distributor.specs.RepresentsDistributor.{bank_of}
 use Rattle.mu_distributor_rows.specs.declared.looks.DistLook.{DistLook}
 use Rattle.mu_distributor_rows.specs.Due.{IsDue, IsDueIn, IsDueOf}
 use Rattle.mu_distributor_rows.specs.Looks.{Seen, seen, seen_of, LooksAs, meta_of, phase_of, run_phase}

@@ -7,7 +7,7 @@ use Rattle.mu_model_distributor.specs.Replies.{DistReply, CapabilitiesStatus}
 use Rattle.mu_model_distributor.specs.DistState.{StoredImage, UploadJob, Upload, NoUpload, Uploading, Broken, Uploaded, DistState, job_of, run_by, run_upload}
 use Rattle.mu_model_distributor.specs.Receivers.{is_stored_in, is_filled_by, banks, empty_banks, capabilities}
 use Rattle.mu_model_represents.specs.Images.{is_among}
-use Rattle.mu_model_represents.specs.RepresentsDistributor.{bank_of}
+use Rattle.mu_model_represents_distributor.specs.RepresentsDistributor.{bank_of}
 use Rattle.mu_distributor_rows.specs.declared.looks.DistLook.{DistLook}
 use Rattle.mu_distributor_rows.specs.Looks.{Seen, seen, seen_of, LooksAs, job_look, phase_of, run_phase}
 use Rattle.mu_distributor_rows.specs.Decided.{is_taken_by, free_banks, run_seen}

@@ -8,8 +8,8 @@ use Rattle.mu_model_distributor.specs.Replies.{DistReply, UploadStatus}
 use Rattle.mu_model_distributor.specs.DistState.{StoredImage, UploadJob, Upload, NoUpload, Uploading, Broken, Uploaded, DistState, job_of, run_by, run_upload, upload_number, is_at_rest}
 use Rattle.mu_model_distributor.specs.Receivers.{empty_banks, insufficient_resources, internal_error, busy_with_distribution, busy_with_upload}
 use Rattle.mu_model_distributor.specs.Uploads.{own_id, has_image, offered_meta, same_upload_start, takes_in, takes, takes_or_resumes, offers, upload_start, upload_status, shown_upload}
-use Rattle.mu_model_represents.specs.DistributorNote.{upload_phase_number}
-use Rattle.mu_model_represents.specs.RepresentsDistributor.{bank_of}
+use Rattle.mu_model_represents_distributor.specs.DistributorNote.{upload_phase_number}
+use Rattle.mu_model_represents_distributor.specs.RepresentsDistributor.{bank_of}
 use Rattle.mu_distributor_kept.specs.Views.{upload_phase}
 use Rattle.mu_distributor_rows.specs.declared.looks.DistLook.{DistLook}
 use Rattle.mu_distributor_rows.specs.declared.uploads.UploadStep.{UploadStep}

@@ -6,7 +6,7 @@ use Rattle.mu_model_distributor.specs.declared.Settings.{Settings}
 use Rattle.mu_model_distributor.specs.declared.DistPhase.{DistPhase}
 use Rattle.mu_model_distributor.specs.DistState.{StoredImage, UploadJob, Upload, NoUpload, Uploading, Broken, Uploaded, DistState, job_of}
 use Rattle.mu_model_distributor.specs.Uploads.{transfer_progress}
-use Rattle.mu_model_represents.specs.RepresentsDistributor.{bank_of}
+use Rattle.mu_model_represents_distributor.specs.RepresentsDistributor.{bank_of}
 use Rattle.mu_distributor_kept.specs.declared.phase.UploadPhase.{UploadPhase}
 use Rattle.mu_distributor_kept.specs.declared.phase.UploadPhase.TheVariants.{Idle, TransferActive, TransferError, TransferSuccess}
 use Rattle.mu_distributor_rows.specs.declared.looks.UploadLook.{UploadLook}

@@ -4,7 +4,7 @@ ghost use Rattle.std.specs.Option.{option_map};
 ghost use Rattle.mu_model_node.specs.UpdateTable.{same_meta};
 ghost use Rattle.mu_model_distributor.specs.DistState.{DistState, run_upload};
 ghost use Rattle.mu_model_distributor.specs.Uploads.{percent, own_id, offered_meta, upload_start, upload_status, upload_cancel};
-ghost use Rattle.mu_model_represents.specs.DistributorNote.{upload_phase_number};
+ghost use Rattle.mu_model_represents_distributor.specs.DistributorNote.{upload_phase_number};
 ghost use Rattle.mu_distributor_kept.specs.Views.{upload_phase};
 ghost use Rattle.mu_distributor_rows.specs.Due.{IsDue, IsDueIn};
 ghost use Rattle.mu_distributor_rows.specs.Looks.{seen, LooksAs};

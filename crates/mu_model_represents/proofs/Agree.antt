@@ -8,11 +8,8 @@ use Rattle.mu_model_image.specs.Meta.{meta_of}
 use Rattle.mu_model_flash.specs.Bits.{AreOctets, part_of}
 use Rattle.mu_model_flash.specs.Laws.{RangeLaws}
 use Rattle.mu_model_record.specs.Record.{number_at}
+use Rattle.mu_model_represents.specs.Octets.{Agree}
 use Rattle.mu_model_represents.proofs.Octets.{octets_drop}
-
--- so many octets from a place on are the same
-abbrev pub Agree : List ℕ → List ℕ → ℕ → ℕ → Type 0
-Agree a b p n = (k : ℕ) → k < n → slice_index a (p + k) ≡ slice_index b (p + k)
 
 either : (n i : ℕ) → (i < n) ⊎ (n ≤ i)
 either n i = grind arith

@@ -7,13 +7,11 @@ use Rattle.mu_model_record.specs.declared.BankState.{BankState}
 use Rattle.mu_model_record.specs.declared.BankState.TheVariants.{Empty, Filling, Sealed}
 use Rattle.mu_model_record.specs.Record.{entry_of, capacity_of}
 use Rattle.mu_model_record.specs.Store.{Content, nothing, held, whole, StoreState, content_of_bank}
-use Rattle.mu_model_distributor.specs.DistState.{StoredImage}
 use Rattle.mu_model_represents.specs.BlobPart.{blob_part, IsBlobPart, transfer_in, blob_octets}
-use Rattle.mu_model_represents.specs.Images.{IsSealed, HasImage}
+use Rattle.mu_model_represents.specs.Images.{IsSealed, HasImage, SealedBankHasAnImage}
 use Rattle.mu_model_represents.specs.StoreStates.{ContentOf, IsStoreState}
 use Rattle.mu_model_represents.specs.RepresentsNode.{job_by}
-use Rattle.mu_model_represents.specs.RepresentsDistributor.{HasStored, upload_job_in, upload_by}
-use Rattle.mu_model_represents.specs.Laws.{BlobPartIsSound, NodeRecordIsANode, DistributorRecordIsADistributor}
+use Rattle.mu_model_represents.specs.Laws.{BlobPartIsSound, NodeRecordIsANode}
 use Rattle.mu_model_represents.specs.Written.{BlobPartIsReadBack}
 use Rattle.mu_model_represents.proofs.Octets.{octets_part, number_fits}
 use Rattle.mu_model_represents.proofs.StoreLemmas.{bank_there, job_blocks}
@@ -49,12 +47,8 @@ module _ (s : StoreState) (state : IsStoreState s) where
   images_in [] sealed = ([], tt)
   images_in (b ∷ banks) sealed = let one = found_in b sealed.0 in let rest = images_in banks sealed.1 in (one.image ∷ rest.0, (one.has, rest.1))
 
-  stored_in : (banks : List ℕ) → AllByRecursion (λ (b : ℕ). IsSealed (entry_of s.present b)) banks → (xs : List StoredImage) × AllZip (HasStored s) banks xs
-  stored_in [] sealed = ([], tt)
-  stored_in (b ∷ banks) sealed =
-      let one = found_in b sealed.0 in
-      let rest = stored_in banks sealed.1 in
-      (record { bank = b; image = one.image } ∷ rest.0, (record { there = refl; image = one.has }, rest.1))
+pub sealed_image : SealedBankHasAnImage
+sealed_image s bank state sealed = let one = found_in s state bank sealed in (one.image, one.has)
 
 pub node_record : NodeRecordIsANode
 node_record s part note state is =
@@ -66,36 +60,6 @@ node_record s part note state is =
         capacity = refl;
         images = images.1;
         job = refl;
-      },
-    )
-
-pub distributor_record : DistributorRecordIsADistributor
-distributor_record s part n state is =
-    let images = stored_in s state n.banks is.banks_sealed in (
-      record {
-        count = s.present.count;
-        capacity = capacity_of s.present;
-        images = images.0;
-        phase = n.phase;
-        counter = n.counter;
-        settings = n.settings;
-        receivers = n.receivers;
-        upload_ttl = n.upload_ttl;
-        upload_meta = n.upload_meta;
-        upload = upload_by n.upload (upload_job_in s part);
-      },
-      record {
-        is_record = is;
-        count = refl;
-        capacity = refl;
-        images = images.1;
-        phase = refl;
-        counter = refl;
-        settings = refl;
-        receivers = refl;
-        upload_ttl = refl;
-        upload_meta = refl;
-        upload = refl;
       },
     )
 

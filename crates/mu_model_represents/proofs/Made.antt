@@ -1,4 +1,4 @@
--- A store with images in given banks, and one bank more that may be Filling or Sealed.
+-- The state of a store with images in given banks, and one bank more.
 use Rattle.std.proofs.Common.{◌≡◌, ◌⊎◌, ⊎_elim, ℕ, zero, suc, ◌*◌, ◌<◌, ◌≤◌, min, Bool, true, false, Option, Some, None, List, [], ◌∷◌, take, refl, sym, ◌∙◌, ap, subst, arith, eqb, eq-eqb}
 use Rattle.std.specs.Prelude.{slice_index_or}
 use Rattle.std.proofs.lemmas.Bool.{eqb-true}
@@ -11,56 +11,8 @@ use Rattle.mu_model_record.specs.Record.{IsEntryInRange, IsFilling, entry_of}
 use Rattle.mu_model_record.specs.Store.{Content, nothing, whole, StoreState, content_of_bank}
 use Rattle.mu_model_represents.specs.BlobPart.{NoneFilling}
 use Rattle.mu_model_represents.specs.Images.{IsSealed, HasImage}
+use Rattle.mu_model_represents.specs.Made.{entry_by, content_by, Plan, made, IsPlan, StoresAreMade}
 use Rattle.mu_model_represents.specs.StoreStates.{ContentOf, IsStoreState}
-use Rattle.mu_model_represents.specs.Numbers.{IsCount}
-use Rattle.mu_model_record.specs.ChangeLaws.{IsTag}
-use Rattle.mu_model_represents.proofs.StoreLemmas.{IsGoodImage}
-
-abbrev pub entry_by : BankState → Option Image → Bool → BankState
-entry_by e (Some x) t = Sealed x.meta
-entry_by e None true = e
-entry_by e None false = Empty
-
-abbrev pub content_by : Content → Option Image → Bool → Content
-content_by c (Some x) t = whole x.octets
-content_by c None true = c
-content_by c None false = nothing
-
--- all but the images
-pub record Plan : Type 0 where
-  pub count : ℕ
-  pub pages : ℕ
-  pub number : ℕ
-  pub tag : List ℕ
-  -- the bank that has none of them, with what is in it
-  pub bank : ℕ
-  pub entry : BankState
-  pub content : Content
-
-abbrev pub made : Plan → (ℕ → Option Image) → StoreState
-made p placed = record {
-  present = record {
-    count = p.count;
-    pages = p.pages;
-    number = p.number;
-    banks = entry_by p.entry (placed 0) (eqb 0 p.bank) ∷ entry_by p.entry (placed 1) (eqb 1 p.bank) ∷ entry_by p.entry (placed 2) (eqb 2 p.bank) ∷ entry_by p.entry (placed 3) (eqb 3 p.bank) ∷ [];
-    tag = p.tag;
-  };
-  contents = take p.number (content_by p.content (placed 0) (eqb 0 p.bank) ∷ content_by p.content (placed 1) (eqb 1 p.bank) ∷ content_by p.content (placed 2) (eqb 2 p.bank) ∷ content_by p.content (placed 3) (eqb 3 p.bank) ∷ []);
-}
-
-pub record IsPlan (p : Plan) (placed : ℕ → Option Image) : Type 0 where
-  pub count : IsCount p.count
-  pub pages_least : 1 ≤ p.pages
-  pub pages_most : p.pages ≤ 256
-  pub number_least : 2 ≤ p.number
-  pub number_most : p.number ≤ 4
-  pub tag : IsTag p.tag
-  pub there : (b : ℕ) (x : Image) → placed b ≡ Some x → b < p.number
-  pub good : (b : ℕ) (x : Image) → placed b ≡ Some x → IsGoodImage (4096 * p.pages) x
-  pub bank : p.bank < p.number
-  pub entry : IsEntryInRange (made p placed).present p.entry
-  pub content : ContentOf p.entry p.content
 
 module _ (p : Plan) (placed : ℕ → Option Image) (is : IsPlan p placed) where
   abbrev r : Record
@@ -175,3 +127,13 @@ module _ (p : Plan) (placed : ℕ → Option Image) (is : IsPlan p placed) where
     where
       least : (n : ℕ) → n ≤ 4 → min n 4 ≡ n
       least n h = omega arith
+
+pub stores_are_made : StoresAreMade
+stores_are_made p placed is = record {
+  state = is_made p placed is;
+  image = has_image p placed is;
+  entry = entry_there p placed is;
+  content = content_there p placed is;
+  none_filling = none_filling p placed is;
+  sealed_image = sealed_image p placed is;
+}

@@ -19,7 +19,7 @@ use Rattle.mu_model_node.specs.Worked.{digest_abc}
 use Rattle.mu_model_represents.specs.BlobPart.{BlobJob, blob_part, note_part, IsBlobPart, ParametersFit, PartFits, blob_octets}
 use Rattle.mu_model_represents.specs.NodeNote.{NoteJob, NodeNote, IsNodeNote, note_octets}
 use Rattle.mu_model_represents.specs.RepresentsNode.{IsNodeRecord, part_of_job, note_of_job, note_of_node, node_tag, old_node_tag}
-use Rattle.mu_model_represents.specs.WorkedNode.{record_of, first, new, coming, meta_at, begun_with, job_with, taken_job, NoNodes}
+use Rattle.mu_model_represents.specs.WorkedNode.{DigestIsOctets, record_of, first, new, coming, meta_at, begun_with, job_with, taken_job, NoNodes}
 use Rattle.mu_model_represents.proofs.BlobWritten.{part_written, length_part}
 use Rattle.mu_model_represents.proofs.NoteWritten.{NoteFits, AreActive, one, two, is_written, length_note}
 use Rattle.mu_model_represents.proofs.NodeOnce.{part_once, note_once}
@@ -43,7 +43,7 @@ digest_is : sha256 (0x61 ∷ 0x62 ∷ 0x63 ∷ []) ≡ digest_abc
 unfolding sha256 digest_bytes hash_after compress rounds schedule first_words
 digest_is = refl
 
-pub abc_octets : ImagesHaveMetadata → All (λ octet. octet < 256) digest_abc
+pub abc_octets : ImagesHaveMetadata → DigestIsOctets
 abc_octets metas = subst (λ (xs : List ℕ). All (λ octet. octet < 256) xs) digest_is (metas 0 (0x61 ∷ 0x62 ∷ 0x63 ∷ []) (omega arith) (omega arith) (omega arith)).digest_octets
 
 module _ (back : MetaIsReadBack) (metas : ImagesHaveMetadata) where

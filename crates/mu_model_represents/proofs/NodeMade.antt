@@ -26,7 +26,8 @@ use Rattle.mu_model_represents.specs.StoreStates.{ContentOf, IsStoreState}
 use Rattle.mu_model_represents.specs.RepresentsNode.{StoredGoesWith, IsNode, node_tag, part_of_node, note_of_node}
 use Rattle.mu_model_represents.specs.Written.{KeepsJobs, KeepsNode}
 use Rattle.mu_model_represents.proofs.Cuts.{held_is_cut}
-use Rattle.mu_model_represents.proofs.Made.{Plan, made, IsPlan, has_image, entry_there, content_there, none_filling, is_made}
+use Rattle.mu_model_represents.specs.Made.{Plan, made, IsPlan}
+use Rattle.mu_model_represents.proofs.Made.{has_image, entry_there, content_there, none_filling, is_made}
 use Rattle.mu_model_represents.proofs.NodeWritten.{are_tags, read_back}
 use Rattle.mu_model_represents.proofs.NoteWritten.{AreActive, one, two}
 

@@ -11,7 +11,7 @@ use Rattle.mu_model_node.specs.declared.Stored.{Stored}
 use Rattle.mu_model_node.specs.declared.Stored.TheVariants.{Filling, Verified, Refused, Applied}
 use Rattle.mu_model_node.specs.NodeState.{NodeDurable}
 use Rattle.mu_model_represents.specs.BlobPart.{BlobJob, blob_part, note_part, HasParameters, IsBlobPart}
-use Rattle.mu_model_represents.specs.Images.{HasImage}
+use Rattle.mu_model_represents.specs.Images.{HasImage, BankIsOneImage}
 use Rattle.mu_model_represents.specs.NodeNote.{NoteJob, NodeNote, stored_number, index_of, HasNoteJob, SpellsActive, IsNodeNote, SpellsNote, SpellsOldNote}
 use Rattle.mu_model_represents.specs.RepresentsNode.{IsNodeOf, IsNode, job_by}
 
@@ -113,7 +113,7 @@ note_once banks a b octets h g = spells_once a b octets (omega (arith, h.one_mor
 
 -- ---- the images
 
-pub image_once : (s : StoreState) (bank : ℕ) (x y : Image) → HasImage s bank x → HasImage s bank y → x ≡ y
+pub image_once : BankIsOneImage
 image_once s bank x y h g =
     let metas : Sealed x.meta ≡ Sealed y.meta = sym h.entry ∙ g.entry in
     let meta : x.meta ≡ y.meta = cc metas in

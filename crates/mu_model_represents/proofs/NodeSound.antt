@@ -17,13 +17,13 @@ use Rattle.mu_model_node.specs.NodeState.{Job, NodeDurable}
 use Rattle.mu_model_node.specs.Slots.{is_full, joined}
 use Rattle.mu_model_node.specs.Sound.{IsActiveImage, HasBlocks, IsNewer, IsWhole, StoredIs, HasJob, IsNodeDurable}
 use Rattle.mu_model_represents.specs.BlobPart.{BlobJob, blob_part, note_part, HasParameters, IsBlobPart, HasBlobRules, held_by}
-use Rattle.mu_model_represents.specs.Images.{HasImage}
+use Rattle.mu_model_represents.specs.Images.{HasImage, IsGoodImage}
 use Rattle.mu_model_represents.specs.NodeNote.{NoteJob, NodeNote, HasNoteJob, SpellsActive, SpellsNote, SpellsOldNote}
 use Rattle.mu_model_represents.specs.Numbers.{IsCount, HasMtu, HasNumbersOf, HasNodeNumbers}
 use Rattle.mu_model_represents.specs.StoreStates.{ContentOf, IsStoreState}
 use Rattle.mu_model_represents.specs.RepresentsNode.{IsNewerThan, IsNewerThanBank, StoredGoesWith, HasNodeJob, job_in, job_by, IsNode}
 use Rattle.mu_model_represents.proofs.Octets.{octets_part, number_fits, all_octets}
-use Rattle.mu_model_represents.proofs.StoreLemmas.{IsGoodImage, good_image, cut_is_full, cut_is_joined, job_blocks}
+use Rattle.mu_model_represents.proofs.StoreLemmas.{good_image, cut_is_full, cut_is_joined, job_blocks}
 
 -- ---- the images
 

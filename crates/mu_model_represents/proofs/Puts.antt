@@ -9,14 +9,12 @@ use Rattle.mu_model_record.specs.Store.{Content, nothing, held, whole, StoreStat
 use Rattle.mu_model_record.specs.Changes.{blocks_in, with_block}
 use Rattle.mu_model_node.specs.NodeState.{Job}
 use Rattle.mu_model_node.specs.Slots.{put}
-use Rattle.mu_model_distributor.specs.DistState.{StoredImage}
 use Rattle.mu_model_represents.specs.BlobPart.{BlobJob, held_by, transfer_in}
 use Rattle.mu_model_represents.specs.Images.{HasImage}
 use Rattle.mu_model_represents.specs.NodeNote.{NoteJob}
 use Rattle.mu_model_represents.specs.StoreStates.{IsStoreState}
 use Rattle.mu_model_represents.specs.RepresentsNode.{HasNodeJob, job_in, job_by}
-use Rattle.mu_model_represents.specs.RepresentsDistributor.{HasStored, upload_by}
-use Rattle.mu_model_represents.specs.Blocks.{HeldBlocksAreCut, CutBlocksAreAllHeld, TakesBlocks, NodeBlockIsPut, DistributorBlockIsPut}
+use Rattle.mu_model_represents.specs.Blocks.{HeldBlocksAreCut, CutBlocksAreAllHeld, TakesBlocks, NodeBlockIsPut}
 use Rattle.mu_model_represents.proofs.Cuts.{held_is_cut}
 use Rattle.mu_model_represents.proofs.StoreLemmas.{cut_is_full, cut_is_joined}
 
@@ -53,18 +51,14 @@ module _ (s : StoreState) (b : BlobJob) (i : ℕ) (octets : List ℕ) (state : I
       let both : whole x.octets ≡ held takes.blocks = sym has.content ∙ ap (content_of_bank s) same ∙ takes.content in
       cc both
 
+  pub image_held : (bank : ℕ) (x : Image) → HasImage s bank x → HasImage (with_block s b.bank i octets) bank x
+  image_held bank x has = image_stays bank x (not_held bank x has) has
+
   images_stay : (banks : List ℕ) (xs : List Image) → AllZip (HasImage s) banks xs → AllZip (HasImage (with_block s b.bank i octets)) banks xs
   images_stay [] [] all = tt
   images_stay [] (x ∷ xs) all = absurd all
   images_stay (a ∷ banks) [] all = absurd all
-  images_stay (a ∷ banks) (x ∷ xs) all = (image_stays a x (not_held a x all.0) all.0, images_stay banks xs all.1)
-
-  stored_stay : (banks : List ℕ) (xs : List StoredImage) → AllZip (HasStored s) banks xs → AllZip (HasStored (with_block s b.bank i octets)) banks xs
-  stored_stay [] [] all = tt
-  stored_stay [] (x ∷ xs) all = absurd all
-  stored_stay (a ∷ banks) [] all = absurd all
-  stored_stay (a ∷ banks) (x ∷ xs) all =
-      (record { there = all.0.there; image = image_stays a x.image (not_held a x.image all.0.image) all.0.image }, stored_stay banks xs all.1)
+  images_stay (a ∷ banks) (x ∷ xs) all = (image_held a x all.0, images_stay banks xs all.1)
 
   job_put : (active : List ℕ) (n : Option NoteJob) (j : Job) → HasNodeJob s.present active (Some b) n → Some j ≡ job_by s (Some b) n
       → Some (record j { held = put j.held i octets }) ≡ job_by (with_block s b.bank i octets) (Some b) n
@@ -90,19 +84,4 @@ node_block s b note d j i octets state takes is job = record {
   capacity = is.capacity;
   images = (images_stay s b i octets state takes) note.active d.images is.images;
   job = (job_put s b i octets state takes) note.active note.job j is.is_record.job (sym job ∙ is.job);
-}
-
-pub distributor_block : DistributorBlockIsPut
-distributor_block s b n d i octets state takes is = record {
-  is_record = is.is_record;
-  count = is.count;
-  capacity = is.capacity;
-  images = (stored_stay s b i octets state takes) n.banks d.images is.images;
-  phase = is.phase;
-  counter = is.counter;
-  settings = is.settings;
-  receivers = is.receivers;
-  upload_ttl = is.upload_ttl;
-  upload_meta = is.upload_meta;
-  upload = λ k. upload_by n.upload (Some (record { transfer = sym (block_put s b i octets state takes) k; bank = b.bank }));
 }

@@ -5,7 +5,7 @@ use Rattle.std.specs.List.{concat}
 use Rattle.std.proofs.lemmas.List.{get_or_past, get_or-map, length-map}
 use Rattle.std.proofs.lemmas.List.FromFn.{length-map-range_with_len, get_or-map-range_with_len}
 use Rattle.mu_model_image.specs.declared.Meta.{Meta}
-use Rattle.mu_model_image.specs.Meta.{Image, IsMeta}
+use Rattle.mu_model_image.specs.Meta.{Image}
 use Rattle.mu_model_image.specs.Pieces.{block_of, block_count, block_length, blocks_of}
 use Rattle.mu_model_image.specs.Laws.{BlockHasItsLength, BlocksAreTheImage}
 use Rattle.mu_model_flash.specs.Laws.{RangeLaws}
@@ -18,9 +18,9 @@ use Rattle.mu_model_record.specs.Represents.{RepresentsStore}
 use Rattle.mu_model_record.specs.ChangeLaws.{PlaceLaws}
 use Rattle.mu_model_node.specs.declared.Parameters.{Parameters}
 use Rattle.mu_model_node.specs.Slots.{at, is_full, joined}
-use Rattle.mu_model_node.specs.Sound.{HaveLengths, AreBlocks, HasBlocks, IsActiveImage}
+use Rattle.mu_model_node.specs.Sound.{HaveLengths, AreBlocks, HasBlocks}
 use Rattle.mu_model_represents.specs.BlobPart.{BlobJob, HasParameters, SpellsParameters, TakesBy, BankGoesWith, IsJobOf, blocks_by, held_by}
-use Rattle.mu_model_represents.specs.Images.{HasImage}
+use Rattle.mu_model_represents.specs.Images.{HasImage, IsGoodImage, BankImageIsGood}
 use Rattle.mu_model_represents.specs.StoreStates.{ContentOf, IsStoreState}
 
 -- ---- the state of a store
@@ -86,10 +86,6 @@ sealed_some : (b : BankState) (meta : Meta) → b ≡ Sealed meta → b ≡ Empt
 sealed_some b meta h g = cc (h, g)
 
 -- an image of a bank is in the ranges and fits
-pub record IsGoodImage (capacity : ℕ) (x : Image) : Type 0 where
-  pub meta : IsMeta x.meta
-  pub active : IsActiveImage capacity x
-
 pub good_image : (s : StoreState) (bank : ℕ) (x : Image) → IsStoreState s → HasImage s bank x → IsGoodImage (capacity_of s.present) x
 good_image s bank x state has =
     let there = bank_there s.present bank state.in_range (sealed_some (entry_of s.present bank) x.meta has.entry) in
@@ -97,6 +93,9 @@ good_image s bank x state has =
     let fits : ContentOf (Sealed x.meta) (content_of_bank s bank) = subst (λ (e : BankState). ContentOf e (content_of_bank s bank)) has.entry (state.contents bank there) in
     let fit : ContentOf (Sealed x.meta) (whole x.octets) = subst (λ (c : Content). ContentOf (Sealed x.meta) c) has.content fits in
     record { meta = range.0; active = record { some = range.0.some; room = range.1; fit = fit } }
+
+pub bank_image : BankImageIsGood
+bank_image s bank x state has = (bank_there s.present bank state.in_range (sealed_some (entry_of s.present bank) x.meta has.entry), good_image s bank x state has)
 
 -- ---- an image cut in blocks
 

@@ -8,13 +8,12 @@ use Rattle.mu_model_flash.specs.Laws.{RangeLaws}
 use Rattle.mu_model_record.specs.declared.Record.{Record}
 use Rattle.mu_model_record.specs.Record.{IsRecord}
 use Rattle.mu_model_node.specs.declared.Parameters.{Parameters}
-use Rattle.mu_model_distributor.specs.DistState.{Receiver}
 use Rattle.mu_model_represents.specs.BlobPart.{BlobJob, blob_part, note_part, HasParameters, IsBlobPart}
 use Rattle.mu_model_represents.specs.NodeNote.{NoteJob, NodeNote, HasNoteJob, SpellsActive, SpellsNote, SpellsOldNote}
-use Rattle.mu_model_represents.specs.DistributorNote.{DistributorNote, IsRow, SpellsDistributor}
-use Rattle.mu_model_represents.specs.Laws.{NodeTagIsOne, DistributorTagIsOne}
+use Rattle.mu_model_represents.specs.Laws.{NodeTagIsOne, TagIsOneByItsNote}
 use Rattle.mu_model_represents.proofs.Octets.{octets_part, all_octets}
-use Rattle.mu_model_represents.proofs.Agree.{Agree, joined, one_octet, all_agree, number_agrees, part_agrees, parts_agree, meta_agrees}
+use Rattle.mu_model_represents.specs.Octets.{Agree}
+use Rattle.mu_model_represents.proofs.Agree.{joined, one_octet, all_agree, number_agrees, part_agrees}
 
 -- a tag is its two parts
 tag_parts : (tag : List ℕ) → length tag ≡ 1792 → blob_part tag ++ note_part tag ≡ tag
@@ -105,48 +104,8 @@ module _ (ranges : RangeLaws) where
       (note_one one note (note_part r.tag) (note_part q.tag) (note_length r fits) (note_length q fine) (octets_part r.tag 64 1728 fits.tag_octets) (octets_part q.tag 64 1728 fine.tag_octets) h.note_octets.spells g.note_octets.spells
       (note_at r 0 (omega arith) ∙ kind ∙ sym (note_at q 0 (omega arith))) (λ none. note_at r 3 (omega arith) ∙ ttl none ∙ sym (note_at q 3 (omega arith))))
 
-  -- ---- the note of a distributor
+  -- ---- any note
 
-  row_same : (row : Option Receiver) (a b : List ℕ) → length a ≡ 6 → length b ≡ 6 → AreOctets a → AreOctets b → IsRow row a → IsRow row b → a ≡ b
-  row_same None a b many more small fine h g = h ∙ sym g
-  row_same (Some r) a b many more small fine h g = (all_agree a b) 6 many more
-      ((joined a b) 0 2 4 (number_agrees 2 a b 0 small fine (h.address_at_0 ∙ sym g.address_at_0))
-      ((joined a b) 2 1 3 ((one_octet a b) 2 (h.index_at_2 ∙ sym g.index_at_2))
-      ((joined a b) 3 1 2 ((one_octet a b) 3 (h.phase_at_3 ∙ sym g.phase_at_3))
-      ((joined a b) 4 1 1 ((one_octet a b) 4 (h.update_status_at_4 ∙ sym g.update_status_at_4)) ((one_octet a b) 5 (h.transfer_status_at_5 ∙ sym g.transfer_status_at_5))))))
-
-  shared : (x y : ℕ) → x % 4 ≡ y % 4 → x / 4 ≡ y / 4 → x ≡ y
-  shared x y h g = omega arith
-
-  distributor_one : (n : DistributorNote) (a b : List ℕ) → length a ≡ 1728 → length b ≡ 1728 → AreOctets a → AreOctets b → SpellsDistributor n a → SpellsDistributor n b → a ≡ b
-  distributor_one n a b many more small fine h g =
-      let s = h.settings_at_16 in
-      let t = g.settings_at_16 in
-      let meta = meta_agrees ranges (part_of a 28 40) (part_of b 28 40) (ranges.parts.length_part a 28 40 (omega (arith, many))) (ranges.parts.length_part b 28 40 (omega (arith, more)))
-      (octets_part a 28 40 small) (octets_part b 28 40 fine) (h.upload_metadata_at_28 ∙ sym g.upload_metadata_at_28) in
-      let rows : Agree a b 128 768 = parts_agree ranges a b 128 128 (λ k lt. row_same (slice_get n.receivers k) (part_of a (128 + 6 * k) 6) (part_of b (128 + 6 * k) 6)
-      (ranges.parts.length_part a (128 + 6 * k) 6 (omega (arith, many, lt))) (ranges.parts.length_part b (128 + 6 * k) 6 (omega (arith, more, lt)))
-      (octets_part a (128 + 6 * k) 6 small) (octets_part b (128 + 6 * k) 6 fine) (h.rows_at_128 k lt) (g.rows_at_128 k lt)) in
-      (all_agree a b) 1728 many more
-      ((joined a b) 0 1 1727 ((one_octet a b) 0 (h.kind_at_0 ∙ sym g.kind_at_0))
-      ((joined a b) 1 1 1726 ((one_octet a b) 1 (h.phase_at_1 ∙ sym g.phase_at_1))
-      ((joined a b) 2 1 1725 ((one_octet a b) 2 (h.upload_at_2 ∙ sym g.upload_at_2))
-      ((joined a b) 3 1 1724 ((one_octet a b) 3 (h.images_at_3 ∙ sym g.images_at_3))
-      ((joined a b) 4 4 1720 (λ k lt. h.banks_at_4 k lt ∙ sym (g.banks_at_4 k lt))
-      ((joined a b) 8 8 1712 (number_agrees 8 a b 8 small fine (h.counter_at_8 ∙ sym g.counter_at_8))
-      ((joined a b) 16 1 1711 ((one_octet a b) 16 (s.ttl_at_16 ∙ sym t.ttl_at_16))
-      ((joined a b) 17 2 1709 (number_agrees 2 a b 17 small fine (s.base_at_17 ∙ sym t.base_at_17))
-      ((joined a b) 19 1 1708 ((one_octet a b) 19 (shared (slice_index a 19) (slice_index b 19) (s.mode_at_19 ∙ sym t.mode_at_19) (s.policy_at_19 ∙ sym t.policy_at_19)))
-      ((joined a b) 20 2 1706 (number_agrees 2 a b 20 small fine (s.image_at_20 ∙ sym t.image_at_20))
-      ((joined a b) 22 2 1704 (number_agrees 2 a b 22 small fine (s.group_at_22 ∙ sym t.group_at_22))
-      ((joined a b) 24 2 1702 (number_agrees 2 a b 24 small fine (s.appkey_at_24 ∙ sym t.appkey_at_24))
-      ((joined a b) 26 1 1701 ((one_octet a b) 26 (h.receivers_at_26 ∙ sym g.receivers_at_26))
-      ((joined a b) 27 1 1700 ((one_octet a b) 27 (h.upload_ttl_at_27 ∙ sym g.upload_ttl_at_27))
-      ((joined a b) 28 40 1660 (part_agrees ranges a b 28 40 meta)
-      ((joined a b) 68 60 1600 (part_agrees ranges a b 68 60 (h.zero_at_68 ∙ sym g.zero_at_68))
-      ((joined a b) 128 768 832 rows (part_agrees ranges a b 896 832 (h.zero_at_896 ∙ sym g.zero_at_896)))))))))))))))))))
-
-  pub distributor_tag_one : DistributorTagIsOne
-  distributor_tag_one r q part n fits fine h g = both_parts r.tag q.tag fits.tag_size fine.tag_size
-      (part_one part (blob_part r.tag) (blob_part q.tag) (blob_length r fits) (blob_length q fine) (octets_part r.tag 0 64 fits.tag_octets) (octets_part q.tag 0 64 fine.tag_octets) h.blob.octets g.blob.octets)
-      (distributor_one n (note_part r.tag) (note_part q.tag) (note_length r fits) (note_length q fine) (octets_part r.tag 64 1728 fits.tag_octets) (octets_part q.tag 64 1728 fine.tag_octets) h.note_octets g.note_octets)
+  pub tag_one : TagIsOneByItsNote
+  tag_one r q part fits fine h g note = both_parts r.tag q.tag fits.tag_size fine.tag_size
+      (part_one part (blob_part r.tag) (blob_part q.tag) (blob_length r fits) (blob_length q fine) (octets_part r.tag 0 64 fits.tag_octets) (octets_part q.tag 0 64 fine.tag_octets) h.octets g.octets) note

@@ -1,5 +1,6 @@
 -- The blocks of a job: as they are put, and as the image that they make.
 use Rattle.std.specs.Prelude.{◌≡◌, ◌<◌, ℕ, true, List, Some, length, map}
+use Rattle.mu_model_image.specs.Meta.{Image}
 use Rattle.mu_model_image.specs.Pieces.{block_count, block_length, blocks_of}
 use Rattle.mu_model_record.specs.Store.{held, StoreState, content_of_bank}
 use Rattle.mu_model_record.specs.Changes.{with_block}
@@ -8,13 +9,11 @@ use Rattle.mu_model_node.specs.NodeState.{Job, NodeDurable}
 use Rattle.mu_model_node.specs.Slots.{Slots, is_full, joined, put}
 use Rattle.mu_model_node.specs.Sound.{HaveLengths}
 use Rattle.mu_model_node.specs.BlobServer.{Puts, changed}
-use Rattle.mu_model_distributor.specs.DistState.{DistDurable}
 use Rattle.mu_model_represents.specs.BlobPart.{BlobJob, transfer_in}
+use Rattle.mu_model_represents.specs.Images.{HasImage}
 use Rattle.mu_model_represents.specs.NodeNote.{NodeNote}
-use Rattle.mu_model_represents.specs.DistributorNote.{DistributorNote}
 use Rattle.mu_model_represents.specs.StoreStates.{IsStoreState}
 use Rattle.mu_model_represents.specs.RepresentsNode.{IsNodeOf}
-use Rattle.mu_model_represents.specs.RepresentsDistributor.{upload_by, IsDistributorOf}
 
 -- ---- the image that they make
 
@@ -42,16 +41,15 @@ BlockIsPut =
     (s : StoreState) (b : BlobJob) (i : ℕ) (octets : List ℕ) → IsStoreState s → TakesBlocks s b
     → transfer_in (with_block s b.bank i octets) b ≡ changed (Puts i octets) (transfer_in s b)
 
--- and all else that is kept stays
+-- and all else that is kept stays: images,
+abbrev pub ImagesStayByBlocks : Type 0
+ImagesStayByBlocks =
+    (s : StoreState) (b : BlobJob) (i : ℕ) (octets : List ℕ) → IsStoreState s → TakesBlocks s b
+    → (bank : ℕ) (x : Image) → HasImage s bank x → HasImage (with_block s b.bank i octets) bank x
+
+-- and a node
 abbrev pub NodeBlockIsPut : Type 0
 NodeBlockIsPut =
     (s : StoreState) (b : BlobJob) (note : NodeNote) (d : NodeDurable) (j : Job) (i : ℕ) (octets : List ℕ) → IsStoreState s → TakesBlocks s b
     → IsNodeOf s (Some b) note d → d.job ≡ Some j
     → IsNodeOf (with_block s b.bank i octets) (Some b) note (record d { job = Some (record j { held = put j.held i octets }) })
-
-abbrev pub DistributorBlockIsPut : Type 0
-DistributorBlockIsPut =
-    (s : StoreState) (b : BlobJob) (n : DistributorNote) (d : DistDurable) (i : ℕ) (octets : List ℕ) → IsStoreState s → TakesBlocks s b
-    → IsDistributorOf s (Some b) n d
-    → IsDistributorOf (with_block s b.bank i octets) (Some b) n
-    (record d { upload = upload_by n.upload (Some (record { transfer = changed (Puts i octets) (transfer_in s b); bank = b.bank })) })

@@ -1,15 +1,13 @@
--- What a boot of a BLOB server, a node or a distributor finds foreign: what a store's boot does, and, where that finds a store, a tag that isn't
--- theirs. So the tag is judged after the marks and the banks (this profile).
-use Rattle.std.specs.Prelude.{◌⊎◌, ℕ, List, Option}
+-- What a boot of a BLOB server or a node finds foreign: what a store's boot does, and, where that finds a store, a tag that isn't theirs. So the tag
+-- is judged after the marks and the banks (this profile).
+use Rattle.std.specs.Prelude.{◌≡◌, ◌⊎◌, ℕ, List, Option}
 use Rattle.mu_model_record.specs.declared.Record.{Record}
 use Rattle.mu_model_record.specs.Kinds.{IsForeign, IsStore}
 use Rattle.mu_model_record.specs.Store.{StoreState}
 use Rattle.mu_model_record.specs.Represents.{RepresentsStore}
 use Rattle.mu_model_node.specs.NodeState.{NodeDurable}
-use Rattle.mu_model_distributor.specs.DistState.{DistDurable}
 use Rattle.mu_model_represents.specs.BlobPart.{BlobJob, IsBlobRecord, IsNoBlobRecord}
 use Rattle.mu_model_represents.specs.RepresentsNode.{IsNoNodeRecord, RepresentsNode}
-use Rattle.mu_model_represents.specs.RepresentsDistributor.{IsNoDistributorRecord, RepresentsDistributor}
 
 -- the store, or its record by this test
 abbrev pub IsForeignBy : (Record → Type 0) → List ℕ → Type 0
@@ -21,10 +19,11 @@ IsForeignToServers image = IsForeignBy IsNoBlobRecord image
 abbrev pub IsForeignToNodes : List ℕ → Type 0
 IsForeignToNodes image = IsForeignBy IsNoNodeRecord image
 
-abbrev pub IsForeignToDistributors : List ℕ → Type 0
-IsForeignToDistributors image = IsForeignBy IsNoDistributorRecord image
-
 -- ---- octets that represent what one keeps aren't foreign to it
+
+-- a boot finds the store that octets represent, and nothing else
+abbrev pub RepresentedStoreIsFound : Type 0
+RepresentedStoreIsFound = (image : List ℕ) (s : StoreState) → RepresentsStore s image → (¬ IsForeign image) × ((r : Record) → IsStore image r → r ≡ s.present)
 
 abbrev pub ServersAreNotForeign : Type 0
 ServersAreNotForeign =
@@ -32,12 +31,3 @@ ServersAreNotForeign =
 
 abbrev pub NodesAreNotForeign : Type 0
 NodesAreNotForeign = (image : List ℕ) (d : NodeDurable) → RepresentsNode d image → ¬ IsForeignToNodes image
-
-abbrev pub DistributorsAreNotForeign : Type 0
-DistributorsAreNotForeign = (image : List ℕ) (d : DistDurable) → RepresentsDistributor d image → ¬ IsForeignToDistributors image
-
--- and what one represents is foreign to the other
-abbrev pub OthersAreForeign : Type 0
-OthersAreForeign =
-    (image : List ℕ) → ((d : NodeDurable) → RepresentsNode d image → IsForeignToDistributors image)
-    × ((d : DistDurable) → RepresentsDistributor d image → IsForeignToNodes image)

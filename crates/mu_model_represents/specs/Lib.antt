@@ -1,14 +1,13 @@
 pub mod BlobPart
+pub mod Octets
 pub mod Images
 pub mod NodeNote
-pub mod DistributorNote
 pub mod RepresentsNode
-pub mod RepresentsDistributor
 pub mod StoreStates
 pub mod Numbers
+pub mod Made
 pub mod Written
 pub mod WorkedNode
-pub mod WorkedDistributor
 pub mod Short
 pub mod Blocks
 pub mod Boots

@@ -4,7 +4,6 @@ use Rattle.std.specs.List.{AllByRecursion}
 use Rattle.mu_model_image.specs.Meta.{Image, IsMeta}
 use Rattle.mu_model_node.specs.declared.Parameters.{Parameters}
 use Rattle.mu_model_node.specs.NodeState.{Job, NodeDurable}
-use Rattle.mu_model_distributor.specs.DistState.{UploadJob, DistDurable, job_of}
 
 pub record IsCount (count : ℕ) : Type 0 where
   pub least : 1 ≤ count
@@ -29,11 +28,3 @@ pub record HasNodeNumbers (d : NodeDurable) : Type 0 where
   pub count : IsCount d.count
   pub images : AllByRecursion (λ (x : Image). IsMeta x.meta) d.images
   pub job : HasNumbersOf d.job
-
-abbrev pub HasUploadMtu : Option UploadJob → Type 0
-HasUploadMtu None = Unit {0}
-HasUploadMtu (Some j) = HasMtu j.transfer.parameters
-
-pub record HasDistributorNumbers (d : DistDurable) : Type 0 where
-  pub count : IsCount d.count
-  pub mtu : HasUploadMtu (job_of d.upload)

@@ -1,6 +1,7 @@
 -- Worked rows: the tags of a node, octet by octet, and records that are no node's. The images are those of the model's rows: the octet 61, and
 -- 61 62 63 as the new one.
-use Rattle.std.specs.Prelude.{◌≡◌, ◌++◌, ℕ, List, [], ◌∷◌, Option, Some, None}
+use Rattle.std.specs.Prelude.{◌≡◌, ◌++◌, ◌<◌, ℕ, List, [], ◌∷◌, Option, Some, None}
+use Rattle.std.specs.List.{All}
 use Rattle.mu_model_image.specs.declared.Meta.{Meta}
 use Rattle.mu_model_record.specs.declared.Record.{Record}
 use Rattle.mu_model_record.specs.declared.BankState.{BankState}
@@ -13,7 +14,7 @@ use Rattle.mu_model_node.specs.declared.Stored.TheVariants.{Filling as Coming}
 use Rattle.mu_model_node.specs.NodeState.{Job}
 use Rattle.mu_model_node.specs.Events.{TimeComes}
 use Rattle.mu_model_node.specs.Safe.{Happening, Done}
-use Rattle.mu_model_node.specs.Worked.{image_a, image_abc, one_image, two_images, id7, metadata_at, update_start, transfer_start, update_apply, said, up_to_block, up_to_chunk, whole_update, after}
+use Rattle.mu_model_node.specs.Worked.{image_a, image_abc, digest_abc, one_image, two_images, id7, metadata_at, update_start, transfer_start, update_apply, said, up_to_block, up_to_chunk, whole_update, after}
 use Rattle.mu_model_represents.specs.BlobPart.{blob_octets}
 use Rattle.mu_model_represents.specs.NodeNote.{note_octets}
 use Rattle.mu_model_represents.specs.RepresentsNode.{IsNoNodeRecord, part_of_job, node_tag, old_node_tag}
@@ -50,6 +51,10 @@ pub record NodeTags : Type 0 where
   pub applied : tag_after (up_to_chunk 0 ++ Done TimeComes 1 ∷ said update_apply ∷ []) ≡ part_begun ++ note_in 6
   -- then the other bank is the active one
   pub done : node_tag (1 ∷ []) 0 (after one_image (whole_update 0)).durable.job ≡ zeros 64 ++ (3 ∷ 1 ∷ zeros 1726)
+
+-- the worked image's digest is octets
+abbrev pub DigestIsOctets : Type 0
+DigestIsOctets = All (λ octet. octet < 256) digest_abc
 
 -- ---- records that are no node's
 

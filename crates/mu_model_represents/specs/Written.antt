@@ -1,5 +1,5 @@
 -- What a record that is written says of the state that it was written for: the tag is read back.
-use Rattle.std.specs.Prelude.{◌≡◌, ◌+◌, ◌++◌, ℕ, ◌<◌, true, false, List, Option, Some, None, length}
+use Rattle.std.specs.Prelude.{◌≡◌, ◌+◌, ◌++◌, ℕ, ◌<◌, false, List, Option, Some, None, length}
 use Rattle.std.specs.List.{AllByRecursion, AllZip}
 use Rattle.mu_model_flash.specs.Bits.{AreOctets}
 use Rattle.mu_model_record.specs.Record.{IsRecord, entry_of, capacity_of}
@@ -7,14 +7,10 @@ use Rattle.mu_model_record.specs.Store.{StoreState, content_of_bank}
 use Rattle.mu_model_record.specs.ChangeLaws.{IsTag}
 use Rattle.mu_model_node.specs.NodeState.{Job, NodeDurable}
 use Rattle.mu_model_node.specs.Sound.{IsNodeDurable}
-use Rattle.mu_model_distributor.specs.DistState.{StoredImage, UploadJob, DistDurable, job_of}
-use Rattle.mu_model_distributor.specs.Receivers.{is_stored_in}
-use Rattle.mu_model_distributor.specs.Sound.{IsDistDurable}
 use Rattle.mu_model_represents.specs.BlobPart.{BlobJob, blob_part, note_part, IsBlobPart, NoneFilling, BankGoesWith, held_by, PartFits, blob_octets}
-use Rattle.mu_model_represents.specs.Images.{IsSealed, is_among, AllDiffer, HasImage}
-use Rattle.mu_model_represents.specs.Numbers.{HasNodeNumbers, HasDistributorNumbers}
+use Rattle.mu_model_represents.specs.Images.{is_among, AllDiffer, HasImage}
+use Rattle.mu_model_represents.specs.Numbers.{HasNodeNumbers}
 use Rattle.mu_model_represents.specs.RepresentsNode.{StoredGoesWith, IsNodeOf, part_of_node, note_of_node, node_tag, old_node_tag}
-use Rattle.mu_model_represents.specs.RepresentsDistributor.{UploadBank, IsDistributorOf, part_of_upload, note_of_distributor, distributor_tag}
 
 -- ---- the BLOB part, before any note
 
@@ -65,34 +61,3 @@ abbrev pub OldNodeTagIsReadBack : Type 0
 OldNodeTagIsReadBack =
     (s : StoreState) (active : List ℕ) (bank : ℕ) (d : NodeDurable) → IsNodeDurable d → HasNodeNumbers d → KeepsNode s active bank d
     → length d.images ≡ 1 → s.present.tag ≡ old_node_tag active bank d.job → IsNodeOf s (part_of_node bank d.job) (note_of_node active d.job) d
-
--- ---- a distributor
-
--- the bank of an upload goes with its parameters, and holds its blocks
-pub record KeepsUpload (s : StoreState) (j : UploadJob) : Type 0 where
-  pub bank : UploadBank j.transfer.parameters (entry_of s.present j.bank)
-  pub goes_with : BankGoesWith s.present j.bank j.transfer.parameters
-  pub held : j.transfer.held ≡ held_by j.transfer.parameters (content_of_bank s j.bank)
-
-abbrev pub KeepsUploads : StoreState → Option UploadJob → Type 0
-KeepsUploads s None = NoneFilling s.present
-KeepsUploads s (Some j) = KeepsUpload s j
-
--- all but the tag
-pub record KeepsDistributor (s : StoreState) (d : DistDurable) : Type 0 where
-  pub in_range : IsRecord s.present
-  pub four_banks : s.present.number ≡ 4
-  pub count : d.count ≡ s.present.count
-  pub capacity : d.capacity ≡ capacity_of s.present
-  pub images : AllByRecursion (λ (x : StoredImage). HasImage s x.bank x.image) d.images
-  -- no other bank is Sealed
-  pub no_other : (b : ℕ) → IsSealed (entry_of s.present b) → is_stored_in d.images b ≡ true
-  pub upload : KeepsUploads s (job_of d.upload)
-
-abbrev pub DistributorTagIsATag : Type 0
-DistributorTagIsATag = (d : DistDurable) → IsDistDurable d → HasDistributorNumbers d → IsTag (distributor_tag d)
-
-abbrev pub DistributorTagIsReadBack : Type 0
-DistributorTagIsReadBack =
-    (s : StoreState) (d : DistDurable) → IsDistDurable d → HasDistributorNumbers d → KeepsDistributor s d
-    → s.present.tag ≡ distributor_tag d → IsDistributorOf s (part_of_upload (job_of d.upload)) (note_of_distributor d) d

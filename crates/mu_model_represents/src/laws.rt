@@ -1,26 +1,40 @@
 //! Laws of the definitions: functions that do nothing, whose contracts are proved.
 
-ghost use Rattle.mu_model_represents.specs.Blocks.{HeldBlocksAreCut, CutBlocksAreAllHeld, BlockIsPut, NodeBlockIsPut, DistributorBlockIsPut};
-ghost use Rattle.mu_model_represents.specs.Boots.{ServersAreNotForeign, NodesAreNotForeign, DistributorsAreNotForeign, OthersAreForeign};
-ghost use Rattle.mu_model_represents.specs.Laws.{BlobPartIsOne, BlobPartIsSound, NodeTagIsOne, DistributorTagIsOne, NodeRecordIsANode, DistributorRecordIsADistributor, StoreIsOneNode, StoreIsOneDistributor, StoreIsNotBoth, OctetsAreOneNode, OctetsAreOneDistributor, OctetsAreNotBoth, OtherKindsAreForeign, RepresentedIsAState, NodeIsSound, RepresentedNodeIsSound, DistributorIsSound, RepresentedDistributorIsSound, SoundNodeIsRepresented, SoundDistributorIsRepresented};
-ghost use Rattle.mu_model_represents.specs.Short.{NodeRecordIsShort, DistributorRecordIsLongByReceivers, StoresAreReadAsNodes, StoresAreReadAsDistributors};
-ghost use Rattle.mu_model_represents.specs.Written.{BlobPartIsReadBack, NodeTagIsATag, NodeTagIsReadBack, OldNodeTagIsReadBack, DistributorTagIsATag, DistributorTagIsReadBack};
-ghost use Rattle.mu_model_represents.specs.WorkedNode.{NodeTags, NoNodes};
-ghost use Rattle.mu_model_represents.specs.WorkedDistributor.{DistributorTags, NoDistributors};
+ghost use Rattle.mu_model_represents.specs.Blocks.{HeldBlocksAreCut, CutBlocksAreAllHeld, BlockIsPut, ImagesStayByBlocks, NodeBlockIsPut};
+ghost use Rattle.mu_model_represents.specs.Boots.{RepresentedStoreIsFound, ServersAreNotForeign, NodesAreNotForeign};
+ghost use Rattle.mu_model_represents.specs.Images.{BankIsOneImage, BankImageIsGood, SealedBankHasAnImage};
+ghost use Rattle.mu_model_represents.specs.Laws.{BlobPartIsOne, OctetsAreOneJob, BlobPartIsSound, ParametersOfBlocksFit, NodeTagIsOne, TagIsOneByItsNote, NodeRecordIsANode, StoreIsOneNode, OctetsAreOneNode, NodeNotesAreOfTwoKinds, OtherKindsAreNoNodes, RepresentedIsAState, NodeIsSound, RepresentedNodeIsSound, SoundNodeIsRepresented};
+ghost use Rattle.mu_model_represents.specs.Made.{StoresAreMade};
+ghost use Rattle.mu_model_represents.specs.Octets.{TagLaws};
+ghost use Rattle.mu_model_represents.specs.Short.{RecordIsShortByItsNote, NodeRecordIsShort, StoresAreReadAsNodes};
+ghost use Rattle.mu_model_represents.specs.Written.{BlobPartIsReadBack, NodeTagIsATag, NodeTagIsReadBack, OldNodeTagIsReadBack};
+ghost use Rattle.mu_model_represents.specs.WorkedNode.{NodeTags, DigestIsOctets, NoNodes};
 
 use mu_model_flash::laws::ranges_of_octets;
 use mu_model_image::laws::{blocks, images, metadata};
 use mu_model_record::laws::{changes, stores};
 
-/// A store, and the octets of a flash, represent what one node or one distributor keeps at most.
+/// Octets that are cut, joined and compared field by field, for the laws of any tag.
+pub fn octets_of_tags()
+    ensures { TagLaws }
+{
+    ranges_of_octets();
+}
+
+/// A bank of a store holds one image at most, within the ranges; one that is Sealed holds one, and any fit images can lie in the banks of a store.
+pub fn images_of_banks()
+    ensures one { BankIsOneImage }
+    ensures good { BankImageIsGood }
+    ensures found { SealedBankHasAnImage }
+    ensures made { StoresAreMade }
+{}
+
+/// A store, and the octets of a flash, represent what one node keeps at most.
 pub fn represented_is_one()
     ensures node { StoreIsOneNode }
-    ensures distributor { StoreIsOneDistributor }
-    ensures not_both { StoreIsNotBoth }
     ensures node_octets { OctetsAreOneNode }
-    ensures distributor_octets { OctetsAreOneDistributor }
-    ensures not_both_octets { OctetsAreNotBoth }
-    ensures other_kinds { OtherKindsAreForeign }
+    ensures kinds { NodeNotesAreOfTwoKinds }
+    ensures other_kinds { OtherKindsAreNoNodes }
 {
     ranges_of_octets();
     stores();
@@ -30,7 +44,7 @@ pub fn represented_is_one()
 /// job, and but for the new note and the old one of one node.
 pub fn octets_count()
     ensures node { NodeTagIsOne }
-    ensures distributor { DistributorTagIsOne }
+    ensures by_note { TagIsOneByItsNote }
 {
     ranges_of_octets();
     metadata();
@@ -41,8 +55,6 @@ pub fn represented_is_sound()
     ensures store { RepresentedIsAState }
     ensures node { NodeIsSound }
     ensures node_octets { RepresentedNodeIsSound }
-    ensures distributor { DistributorIsSound }
-    ensures distributor_octets { RepresentedDistributorIsSound }
 {
     ranges_of_octets();
     changes();
@@ -53,24 +65,24 @@ pub fn represented_is_sound()
 /// The BLOB part says one job at most, which has its places, and is read back whatever note follows it.
 pub fn blob_parts()
     ensures one { BlobPartIsOne }
+    ensures one_job { OctetsAreOneJob }
     ensures sound { BlobPartIsSound }
+    ensures fit { ParametersOfBlocksFit }
     ensures read_back { BlobPartIsReadBack }
 {
     blocks();
 }
 
-/// A store whose record is a node's or a distributor's, by every rule of its tag, represents what that one keeps.
+/// A store whose record is a node's, by every rule of its tag, represents what that one keeps.
 pub fn found_is_represented()
     ensures node { NodeRecordIsANode }
-    ensures distributor { DistributorRecordIsADistributor }
 {}
 
-/// Octets that represent what a node or a distributor keeps are foreign to the other alone.
+/// A boot finds the store that octets represent alone: what represents what a BLOB server or a node keeps isn't foreign to it.
 pub fn foreign_to_others()
+    ensures found { RepresentedStoreIsFound }
     ensures servers { ServersAreNotForeign }
     ensures nodes { NodesAreNotForeign }
-    ensures distributors { DistributorsAreNotForeign }
-    ensures others { OthersAreForeign }
 {
     stores();
 }
@@ -86,25 +98,17 @@ pub fn written_node()
     metadata();
 }
 
-/// The tag that is written for a distributor is read back as the distributor, and each sound state of a distributor is represented by a store.
-pub fn written_distributor()
-    ensures tag { DistributorTagIsATag }
-    ensures read_back { DistributorTagIsReadBack }
-    ensures represented { SoundDistributorIsRepresented }
-{}
-
-/// A node's record is short, and a distributor's is long exactly where the model says so, by its receivers.
+/// A record is short by the octets of its note from 192 on, and a node's is.
 pub fn records_are_short()
+    ensures by_note { RecordIsShortByItsNote }
     ensures node { NodeRecordIsShort }
-    ensures distributor { DistributorRecordIsLongByReceivers }
 {
     ranges_of_octets();
 }
 
-/// Runs of a flash through states of a store are runs through the states that these represent.
+/// Runs of a flash through states of a store are runs through the nodes that these represent.
 pub fn runs_are_read()
     ensures nodes { StoresAreReadAsNodes }
-    ensures distributors { StoresAreReadAsDistributors }
 {}
 
 /// A block that is put is one of the job's, and changes nothing else; blocks that are all held are the image that they make.
@@ -112,8 +116,8 @@ pub fn blocks_of_jobs()
     ensures cut { HeldBlocksAreCut }
     ensures all { CutBlocksAreAllHeld }
     ensures put { BlockIsPut }
+    ensures images { ImagesStayByBlocks }
     ensures node { NodeBlockIsPut }
-    ensures distributor { DistributorBlockIsPut }
 {
     blocks();
 }
@@ -121,16 +125,9 @@ pub fn blocks_of_jobs()
 /// Worked rows: the tags of a node, and records that are no node's.
 pub fn worked_node()
     ensures tags { NodeTags }
+    ensures digest { DigestIsOctets }
     ensures others { NoNodes }
 {
     images();
     metadata();
-}
-
-/// Worked rows: the tags of a distributor, and records that are no distributor's.
-pub fn worked_distributor()
-    ensures tags { DistributorTags }
-    ensures others { NoDistributors }
-{
-    images();
 }

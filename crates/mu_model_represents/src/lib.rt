@@ -1,4 +1,4 @@
-//! When the octets of a flash represent what a node or a distributor keeps: definitions, and laws about them.
+//! When the octets of a flash represent what a node keeps, and what any record keeps of a job: definitions, and laws about them.
 #![tactic(auto)]
 
 pub mod laws;

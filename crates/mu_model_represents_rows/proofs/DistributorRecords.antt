@@ -7,8 +7,8 @@ use Rattle.mu_model_record.specs.declared.BankState.TheVariants.{Empty}
 use Rattle.mu_model_record.specs.Record.{zeros, entry_of, IsFilling}
 use Rattle.mu_model_represents.specs.BlobPart.{note_part}
 use Rattle.mu_model_represents.specs.Images.{IsSealed, is_among}
-use Rattle.mu_model_represents.specs.RepresentsDistributor.{IsDistributorRecord}
-use Rattle.mu_model_represents.specs.DistributorNote.{IsRow}
+use Rattle.mu_model_represents_distributor.specs.RepresentsDistributor.{IsDistributorRecord}
+use Rattle.mu_model_represents_distributor.specs.DistributorNote.{IsRow}
 use Rattle.mu_model_represents_rows.specs.DistributorRecords as d
 
 -- ---- rows past the last

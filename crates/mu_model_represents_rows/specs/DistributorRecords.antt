@@ -6,8 +6,8 @@ use Rattle.mu_model_record.specs.declared.BankState.TheVariants.{Empty}
 use Rattle.mu_model_record.specs.Record.{zeros}
 use Rattle.mu_model_distributor.specs.declared.DistPhase.TheVariants.{Idle, TransferActive, Completed, Failed, TransferSuspended}
 use Rattle.mu_model_represents.specs.BlobPart.{BlobJob}
-use Rattle.mu_model_represents.specs.DistributorNote.{UploadIdle, UploadActive, UploadError, UploadSuccess, DistributorNote}
-use Rattle.mu_model_represents.specs.RepresentsDistributor.{IsDistributorRecord}
+use Rattle.mu_model_represents_distributor.specs.DistributorNote.{UploadIdle, UploadActive, UploadError, UploadSuccess, DistributorNote}
+use Rattle.mu_model_represents_distributor.specs.RepresentsDistributor.{IsDistributorRecord}
 use Rattle.mu_model_represents_rows.specs.NodeRecords.{first, record_of}
 
 -- nothing but the four banks

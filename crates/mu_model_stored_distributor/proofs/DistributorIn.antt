@@ -13,8 +13,8 @@ use Rattle.mu_model_distributor.specs.declared.DistPhase.TheVariants.{Idle, Tran
 use Rattle.mu_model_distributor.specs.DistState.{StoredImage, Receiver, DistDurable, dist_number}
 use Rattle.mu_model_represents.specs.BlobPart.{BlobJob, blob_part, note_part}
 use Rattle.mu_model_represents.specs.Images.{HasImage}
-use Rattle.mu_model_represents.specs.DistributorNote.{UploadPhase, UploadIdle, UploadActive, UploadError, UploadSuccess, upload_phase_number, DistributorNote, SpellsReceiver, IsRow, SpellsDistributor}
-use Rattle.mu_model_represents.specs.RepresentsDistributor.{HasStored, upload_job_in, upload_by, IsDistributorOf, IsDistributor}
+use Rattle.mu_model_represents_distributor.specs.DistributorNote.{UploadPhase, UploadIdle, UploadActive, UploadError, UploadSuccess, upload_phase_number, DistributorNote, SpellsReceiver, IsRow, SpellsDistributor}
+use Rattle.mu_model_represents_distributor.specs.RepresentsDistributor.{HasStored, upload_job_in, upload_by, IsDistributorOf, IsDistributor}
 use Rattle.mu_model_jobs.specs.Parts.{part_in, PartIsRead}
 use Rattle.mu_model_stored_distributor.specs.DistributorIn.{phase_in, upload_in, settings_in, receiver_in, row_in, bank_in, note_in, meta_in, octets_in, image_in, stored_in, note_of_store, distributor_by, distributor_in}
 

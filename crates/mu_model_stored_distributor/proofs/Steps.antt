@@ -13,7 +13,7 @@ use Rattle.mu_model_node.specs.declared.FlashWork.{FlashWork}
 use Rattle.mu_model_node.specs.declared.FlashWork.TheVariants.{Untouched, Recorded, Begun, PutBlock}
 use Rattle.mu_model_node.specs.FlashWork.{fresh_after, record_work, passed_by, work_by}
 use Rattle.mu_model_distributor.specs.DistState.{DistDurable}
-use Rattle.mu_model_represents.specs.RepresentsDistributor.{IsDistributor}
+use Rattle.mu_model_represents_distributor.specs.RepresentsDistributor.{IsDistributor}
 
 opposite : (n : ℕ) → nat_lt 0 n ≡ not (n == 0)
 opposite zero = refl

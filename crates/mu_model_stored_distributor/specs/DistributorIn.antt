@@ -13,8 +13,8 @@ use Rattle.mu_model_distributor.specs.declared.DistPhase.{DistPhase}
 use Rattle.mu_model_distributor.specs.declared.DistPhase.TheVariants.{Idle, TransferActive, TransferSuccess, ApplyingUpdate, Completed, Failed, CancelingUpdate, TransferSuspended}
 use Rattle.mu_model_distributor.specs.DistState.{StoredImage, Receiver, DistDurable}
 use Rattle.mu_model_represents.specs.BlobPart.{blob_part, note_part}
-use Rattle.mu_model_represents.specs.DistributorNote.{UploadPhase, UploadIdle, UploadActive, UploadError, UploadSuccess, DistributorNote, SpellsDistributor}
-use Rattle.mu_model_represents.specs.RepresentsDistributor.{upload_job_in, upload_by, IsDistributor}
+use Rattle.mu_model_represents_distributor.specs.DistributorNote.{UploadPhase, UploadIdle, UploadActive, UploadError, UploadSuccess, DistributorNote, SpellsDistributor}
+use Rattle.mu_model_represents_distributor.specs.RepresentsDistributor.{upload_job_in, upload_by, IsDistributor}
 use Rattle.mu_model_jobs.specs.Parts.{part_in}
 
 -- ---- the note

@@ -10,7 +10,7 @@ use Rattle.mu_model_node.specs.FlashWork.{fresh_after, passed_by, work_by}
 use Rattle.mu_model_distributor.specs.DistState.{DistDurable}
 use Rattle.mu_model_distributor.specs.Commit.{is_long}
 use Rattle.mu_model_represents.specs.StoreStates.{IsStoreState}
-use Rattle.mu_model_represents.specs.RepresentsDistributor.{IsDistributor}
+use Rattle.mu_model_represents_distributor.specs.RepresentsDistributor.{IsDistributor}
 
 -- both notions of what is fresh agree after a record of a distributor, which is long by its receivers
 abbrev pub DistributorFreshIsTheSame : Type 0

@@ -4,7 +4,7 @@ ghost use Rattle.mu_model_stored_distributor.specs.DistributorIn.{DistributorNot
 ghost use Rattle.mu_model_stored_distributor.specs.Steps.{DistributorFreshIsTheSame, DistributorRecordSteps, DistributorBeginSteps, DistributorBlockSteps, WorkIsOfThePassed};
 
 use mu_model_jobs::laws::parts;
-use mu_model_represents::laws::records_are_short;
+use mu_model_represents_distributor::laws::distributor_records_are_short;
 
 /// The function of a store's state is the distributor that it represents.
 pub fn distributor_is_read()
@@ -23,5 +23,5 @@ pub fn distributor_steps()
     ensures block { DistributorBlockSteps }
     ensures passed { WorkIsOfThePassed }
 {
-    records_are_short();
+    distributor_records_are_short();
 }

@@ -1,6 +1,6 @@
 use Rattle.std.proofs.Common.{◌≡◌, ◌∙◌, List, ap, sym, subst}
 use Rattle.mu_distmsg.specs.declared.message.ReceiverRow.{ReceiverRow}
-use Rattle.mu_model_represents.specs.DistributorNote.{DistributorNote, SpellsDistributor}
+use Rattle.mu_model_represents_distributor.specs.DistributorNote.{DistributorNote, SpellsDistributor}
 use Rattle.mu_model_stored_distributor.specs.DistributorIn.{note_in}
 use Rattle.mu_distributor_note.specs.Views.{distributor_note}
 use Rattle.mu_distributor_note.specs.Rules.{FollowsRules}

@@ -3,7 +3,7 @@ use Rattle.std.proofs.lemmas.List.{length-map}
 use Rattle.std.specs.List.{flat_map}
 use Rattle.mu_model_image.specs.Meta.{meta_octets}
 use Rattle.mu_model_record.specs.Record.{zeros}
-use Rattle.mu_model_represents.specs.DistributorNote.{receiver_octets, head_octets}
+use Rattle.mu_model_represents_distributor.specs.DistributorNote.{receiver_octets, head_octets}
 use Rattle.mu_distributor_kept.specs.Views.{row_receiver, row_receivers}
 use Rattle.mu_distributor_note.specs.Views.{distributor_note}
 use Rattle.mu_distributor_note.proofs.RowOctets.{all_joined}

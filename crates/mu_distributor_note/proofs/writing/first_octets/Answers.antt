@@ -2,7 +2,7 @@ use Rattle.std.proofs.Common.{◌≡◌, ◌∙◌, ℕ, ◌++◌, length, refl,
 use Rattle.std.specs.Prelude.{replicate}
 use Rattle.mu_model_image.specs.Meta.{meta_octets}
 use Rattle.mu_model_record.specs.Record.{zeros}
-use Rattle.mu_model_represents.specs.DistributorNote.{head_octets}
+use Rattle.mu_model_represents_distributor.specs.DistributorNote.{head_octets}
 use Rattle.mu_distributor_note.specs.Views.{distributor_note}
 use Rattle.mu_distributor_note.proofs.RowOctets.{first_put}
 use Rattle.mu_distributor_note.proofs.writing.first_octets.Goals as goal

@@ -1,6 +1,6 @@
 use Rattle.std.proofs.Common.{◌∙◌, sym, ap}
 use Rattle.mu_model_distributor.specs.Replies.{UploadStatus}
-use Rattle.mu_model_represents.specs.DistributorNote.{upload_phase_number}
+use Rattle.mu_model_represents_distributor.specs.DistributorNote.{upload_phase_number}
 use Rattle.mu_distributor_kept.specs.declared.phase.UploadPhase.{UploadPhase}
 use Rattle.mu_distributor_kept.specs.Views.{upload_phase}
 use Rattle.mu_distributor_rows.specs.Decided.{shown_seen}

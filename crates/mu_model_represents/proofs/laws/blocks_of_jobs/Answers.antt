@@ -1,4 +1,4 @@
-use Rattle.mu_model_represents.proofs.Puts.{held_cut, cut_held, block_put, node_block, distributor_block}
+use Rattle.mu_model_represents.proofs.Puts.{held_cut, cut_held, block_put, image_held, node_block}
 use Rattle.mu_model_represents.proofs.laws.blocks_of_jobs.Goals as goal
 
 pub returns-clause-cut : goal.returns-clause-cut
@@ -13,5 +13,5 @@ returns-clause-put c = block_put
 pub returns-clause-node : goal.returns-clause-node
 returns-clause-node c = node_block
 
-pub returns-clause-distributor : goal.returns-clause-distributor
-returns-clause-distributor c = distributor_block
+pub returns-clause-images : goal.returns-clause-images
+returns-clause-images c = image_held

@@ -3,13 +3,13 @@ use Rattle.mu_model_stored_distributor.proofs.Steps.{same_fresh, record_zip, blo
 use Rattle.mu_model_stored_distributor.proofs.laws.distributor_steps.Goals as goal
 
 pub returns-clause-fresh : goal.returns-clause-fresh
-returns-clause-fresh c fresh e n state is = same_fresh fresh e.present (is_long n) (c.records_are_short.ensures.distributor e n state is)
+returns-clause-fresh c fresh e n state is = same_fresh fresh e.present (is_long n) (c.distributor_records_are_short.ensures.distributor e n state is)
 
 pub returns-clause-one_record : goal.returns-clause-one_record
-returns-clause-one_record c fresh s e d n state before after = record_zip s e d n before after fresh (is_long n) (c.records_are_short.ensures.distributor e n state after)
+returns-clause-one_record c fresh s e d n state before after = record_zip s e d n before after fresh (is_long n) (c.distributor_records_are_short.ensures.distributor e n state after)
 
 pub returns-clause-begin : goal.returns-clause-begin
-returns-clause-begin c fresh s e d n state before after = (before, record_zip s e d n before after fresh (is_long n) (c.records_are_short.ensures.distributor e n state after))
+returns-clause-begin c fresh s e d n state before after = (before, record_zip s e d n before after fresh (is_long n) (c.distributor_records_are_short.ensures.distributor e n state after))
 
 pub returns-clause-block : goal.returns-clause-block
 returns-clause-block c fresh pages s e d n before after = block_zip s e d n before after pages

@@ -16,8 +16,8 @@ use Rattle.mu_model_distributor.specs.DistEvents.{new_distributor, stocked, rest
 use Rattle.mu_model_distributor.specs.Runs.{state_after}
 use Rattle.mu_model_distributor.specs.Sound.{no_settings}
 use Rattle.mu_model_represents.specs.BlobPart.{BlobJob, blob_octets}
-use Rattle.mu_model_represents.specs.DistributorNote.{UploadIdle, UploadActive, UploadSuccess, DistributorNote, distributor_octets}
-use Rattle.mu_model_represents.specs.RepresentsDistributor.{IsNoDistributorRecord, distributor_tag}
+use Rattle.mu_model_represents_distributor.specs.DistributorNote.{UploadIdle, UploadActive, UploadSuccess, DistributorNote, distributor_octets}
+use Rattle.mu_model_represents_distributor.specs.RepresentsDistributor.{IsNoDistributorRecord, distributor_tag}
 use Rattle.mu_model_represents.specs.WorkedNode.{record_of, first, coming}
 
 -- ---- tags that are written

@@ -5,7 +5,6 @@ use Rattle.std.proofs.lemmas.Bool.{eqb-true}
 use Rattle.std.proofs.lemmas.List.Elements.{All-drop}
 use Rattle.mu_model_image.specs.declared.Meta.{Meta}
 use Rattle.mu_model_image.specs.Meta.{meta_of}
-use Rattle.mu_model_image.specs.Laws.{BlockHasItsLength}
 use Rattle.mu_model_flash.specs.Bits.{AreOctets, part_of}
 use Rattle.mu_model_flash.specs.Laws.{RangeLaws}
 use Rattle.mu_model_record.specs.declared.Record.{Record}
@@ -17,15 +16,15 @@ use Rattle.mu_model_node.specs.declared.Parameters.{Parameters}
 use Rattle.mu_model_distributor.specs.DistState.{StoredImage, UploadJob, job_of, DistDurable}
 use Rattle.mu_model_distributor.specs.Receivers.{is_stored_in}
 use Rattle.mu_model_distributor.specs.Sound.{AreStored, BanksDiffer, HasUploadJob, AreMetaNumbers, HasUpload, IsDistDurable}
-use Rattle.mu_model_represents.specs.BlobPart.{BlobJob, blob_part, note_part, IsBlobPart}
-use Rattle.mu_model_represents.specs.Images.{IsSealed, is_among, AllDiffer}
-use Rattle.mu_model_represents.specs.DistributorNote.{UploadPhase, UploadIdle, UploadActive, UploadError, UploadSuccess, DistributorNote}
-use Rattle.mu_model_represents.specs.Numbers.{HasUploadMtu, HasDistributorNumbers}
+use Rattle.mu_model_represents.specs.BlobPart.{BlobJob, note_part, IsBlobRecord, ParametersFit}
+use Rattle.mu_model_represents.specs.Images.{IsSealed, is_among, AllDiffer, BankImageIsGood}
+use Rattle.mu_model_represents_distributor.specs.DistributorNote.{UploadPhase, UploadIdle, UploadActive, UploadError, UploadSuccess, DistributorNote}
+use Rattle.mu_model_represents.specs.Laws.{BlobPartIsSound}
+use Rattle.mu_model_represents.specs.Numbers.{HasMtu}
+use Rattle.mu_model_represents.specs.Octets.{OctetLaws}
+use Rattle.mu_model_represents_distributor.specs.Numbers.{HasUploadMtu, HasDistributorNumbers}
 use Rattle.mu_model_represents.specs.StoreStates.{IsStoreState}
-use Rattle.mu_model_represents.specs.RepresentsDistributor.{UploadBank, UploadGoesWith, IsDistributorRecord, HasStored, upload_job_in, upload_by, IsDistributorOf, IsDistributor}
-use Rattle.mu_model_represents.proofs.Octets.{octets_part, number_fits, all_octets}
-use Rattle.mu_model_represents.proofs.StoreLemmas.{good_image, job_blocks, bank_there}
-use Rattle.mu_model_represents.proofs.NodeSound.{mtu_good}
+use Rattle.mu_model_represents_distributor.specs.RepresentsDistributor.{UploadBank, UploadGoesWith, IsDistributorRecord, HasStored, upload_job_in, upload_by, IsDistributorOf, IsDistributor}
 
 -- ---- the images
 
@@ -34,15 +33,14 @@ not_empty Empty h e = h
 not_empty (Filling size log) h e = h
 not_empty (Sealed meta) h e = cc e
 
-module _ (s : StoreState) (state : IsStoreState s) (four : s.present.number ≡ 4) where
+module _ (image : BankImageIsGood) (s : StoreState) (state : IsStoreState s) (four : s.present.number ≡ 4) where
   stored_good : (banks : List ℕ) (xs : List StoredImage) → AllByRecursion (λ (b : ℕ). IsSealed (entry_of s.present b)) banks → AllZip (HasStored s) banks xs → AreStored (capacity_of s.present) xs
   stored_good [] [] sealed all = tt
   stored_good [] (x ∷ xs) sealed all = absurd all
   stored_good (b ∷ banks) [] sealed all = absurd all
   stored_good (b ∷ banks) (x ∷ xs) sealed all =
-      let good = good_image s b x.image state all.0.image in
-      let there = bank_there s.present b state.in_range (not_empty (entry_of s.present b) sealed.0) in
-      (record { bank = omega (arith, there, four, all.0.there); meta = good.meta; image = good.active }, stored_good banks xs sealed.1 all.1)
+      let good = image s b x.image state all.0.image in
+      (record { bank = omega (arith, good.0, four, all.0.there); meta = good.1.meta; image = good.1.active }, stored_good banks xs sealed.1 all.1)
 
 pub among_same : (s : StoreState) (banks : List ℕ) (xs : List StoredImage) → AllZip (HasStored s) banks xs → (bank : ℕ) → is_stored_in xs bank ≡ is_among banks bank
 among_same s [] [] all bank = refl
@@ -80,7 +78,7 @@ upload_not_sealed (Some p) (Sealed meta) h sealed = h
 
 -- ---- the upload
 
-module _ (lengths : BlockHasItsLength) (s : StoreState) (state : IsStoreState s) (n : DistributorNote) (images : List StoredImage) (all : AllZip (HasStored s) n.banks images) (metas : AreMetaNumbers n.upload_meta) where
+module _ (sound : BlobPartIsSound) (s : StoreState) (state : IsStoreState s) (n : DistributorNote) (images : List StoredImage) (all : AllZip (HasStored s) n.banks images) (metas : AreMetaNumbers n.upload_meta) where
   upload_free : (part : Option BlobJob) (b : BlobJob) → IsDistributorRecord s.present part n → UploadBank b.parameters (entry_of s.present b.bank) → is_stored_in images b.bank ≡ false
   upload_free part b is goes = among_same s n.banks images all b.bank ∙ by (is_among n.banks b.bank) refl
     where
@@ -91,11 +89,10 @@ module _ (lengths : BlockHasItsLength) (s : StoreState) (state : IsStoreState s)
   job_good : (part : Option BlobJob) → IsDistributorRecord s.present part n → HasUploadJob (capacity_of s.present) images n.upload_meta (upload_job_in s part)
   job_good None is = tt
   job_good (Some b) is =
-      let octets = blob_part s.present.tag in
-      let small = octets_part s.present.tag 0 64 state.in_range.tag_octets in
+      let fits = sound s b state is.blob in
       record {
-        id = subst (λ (x : ℕ). x < 2 ^ 64) is.blob.octets.id_at_4 (number_fits 8 octets 4 small);
-        base = subst (λ (x : ℕ). x < 65536) is.blob.octets.base_at_16 (number_fits 2 octets 16 small);
+        id = fits.0.id;
+        base = fits.0.base;
         bank = omega (arith, is.blob.rules.bank, is.four_banks);
         free = upload_free (Some b) b is is.upload_job.bank;
         meta = record {
@@ -107,12 +104,16 @@ module _ (lengths : BlockHasItsLength) (s : StoreState) (state : IsStoreState s)
         };
         size = is.upload_job.size;
         room = is.blob.rules.size_most;
-        blocks = (job_blocks lengths) s b octets b.parameters state refl is.blob.octets.parameters is.blob.rules;
+        blocks = fits.1;
       }
 
-upload_mtu : (s : StoreState) (part : Option BlobJob) (octets : List ℕ) → AreOctets octets → IsBlobPart part octets → HasUploadMtu (upload_job_in s part)
-upload_mtu s None octets small h = tt
-upload_mtu s (Some b) octets small h = mtu_good b.size b.parameters octets small h.parameters
+mtu_of_fit : (size : ℕ) (p : Option Parameters) → ParametersFit size p → HasMtu p
+mtu_of_fit size None fits = tt
+mtu_of_fit size (Some p) fits = fits.mtu_most
+
+upload_mtu : BlobPartIsSound → (s : StoreState) (part : Option BlobJob) → IsStoreState s → IsBlobRecord s.present part → HasUploadMtu (upload_job_in s part)
+upload_mtu sound s None state h = tt
+upload_mtu sound s (Some b) state h = mtu_of_fit b.size b.parameters (sound s b state h).0.parameters
 
 -- what an upload phase says of the job
 by_phase : (P : Option UploadJob → Type 0) → P None → (phase : UploadPhase) (job : Option UploadJob) → P job → P (job_of (upload_by phase job))
@@ -132,20 +133,20 @@ module _ (s : StoreState) (n : DistributorNote) where
 
 -- ---- its metadata
 
-module _ (ranges : RangeLaws) where
+module _ (ranges : RangeLaws) (laws : OctetLaws) where
   meta_good : (octets : List ℕ) (meta : Meta) → length octets ≡ 1728 → AreOctets octets → meta_of (part_of octets 28 40) ≡ meta → AreMetaNumbers meta
   meta_good octets meta many small is = subst (λ (m : Meta). AreMetaNumbers m) is (record {
-    size = number_fits 4 part 0 fine;
-    version = number_fits 4 part 4 fine;
+    size = laws.number 4 part 0 fine;
+    version = laws.number 4 part 4 fine;
     digest_length = omega (arith, length-drop 8 part, whole);
-    digest_octets = All-drop (λ (octet : ℕ). octet < 256) 8 part (all_octets part fine);
+    digest_octets = All-drop (λ (octet : ℕ). octet < 256) 8 part (laws.each part fine);
   })
     where
       part : List ℕ
       part = part_of octets 28 40
 
       fine : AreOctets part
-      fine = octets_part octets 28 40 small
+      fine = laws.of_part octets 28 40 small
 
       whole : length part ≡ 40
       whole = ranges.parts.length_part octets 28 40 (omega (arith, many))
@@ -181,15 +182,15 @@ dist_is s part n d is = λ i. record {
   upload = sym is.upload i;
 }
 
-module _ (ranges : RangeLaws) (lengths : BlockHasItsLength) where
+module _ (ranges : RangeLaws) (laws : OctetLaws) (image : BankImageIsGood) (sound : BlobPartIsSound) where
   dist_good : (s : StoreState) (part : Option BlobJob) (n : DistributorNote) (images : List StoredImage) → IsStoreState s → IsDistributorRecord s.present part n → AllZip (HasStored s) n.banks images
-      → AreOctets (blob_part s.present.tag) → AreOctets (note_part s.present.tag) → IsDistDurable (dist_of s part n images) × HasDistributorNumbers (dist_of s part n images)
-  dist_good s part n images state is all fine small =
-      let metas = (meta_good ranges) (note_part s.present.tag) n.upload_meta (ranges.parts.length_part s.present.tag 64 1728 (omega (arith, state.in_range.tag_size))) small is.note_octets.upload_metadata_at_28 in
+      → AreOctets (note_part s.present.tag) → IsDistDurable (dist_of s part n images) × HasDistributorNumbers (dist_of s part n images)
+  dist_good s part n images state is all small =
+      let metas = (meta_good ranges laws) (note_part s.present.tag) n.upload_meta (ranges.parts.length_part s.present.tag 64 1728 (omega (arith, state.in_range.tag_size))) small is.note_octets.upload_metadata_at_28 in
       let many = many_stored s n.banks images all in (
         record {
           capacity = (s.present.pages, state.in_range.pages_least, state.in_range.pages_most, refl);
-          images = (stored_good s state is.four_banks) n.banks images is.banks_sealed all;
+          images = (stored_good image s state is.four_banks) n.banks images is.banks_sealed all;
           banks = stored_differ s n.banks images all is.banks_differ;
           counter = is.counter;
           unbegun = is.unbegun;
@@ -201,15 +202,15 @@ module _ (ranges : RangeLaws) (lengths : BlockHasItsLength) where
           few_receivers = is.note_octets.few_receivers;
           upload_ttl = subst (λ (x : ℕ). x < 256) is.note_octets.upload_ttl_at_27 (small 27);
           upload_meta = metas;
-          upload_job = by_phase (HasUploadJob (capacity_of s.present) images n.upload_meta) tt n.upload (upload_job_in s part) ((job_good lengths s state n images all metas) part is);
+          upload_job = by_phase (HasUploadJob (capacity_of s.present) images n.upload_meta) tt n.upload (upload_job_in s part) ((job_good sound s state n images all metas) part is);
           upload = (upload_rests s n) n.upload part is.upload;
         },
         record {
           count = record { least = state.in_range.count_least; most = state.in_range.count_most };
-          mtu = by_phase HasUploadMtu tt n.upload (upload_job_in s part) (upload_mtu s part (blob_part s.present.tag) fine is.blob.octets);
+          mtu = by_phase HasUploadMtu tt n.upload (upload_job_in s part) (upload_mtu sound s part state is.blob);
         },
       )
 
   pub distributor_sound : (s : StoreState) (d : DistDurable) → IsStoreState s → IsDistributor s d → IsDistDurable d × HasDistributorNumbers d
   distributor_sound s d state is = subst (λ (x : DistDurable). IsDistDurable x × HasDistributorNumbers x) (dist_is s is.0 is.1 d is.2)
-      (dist_good s is.0 is.1 d.images state is.2.is_record is.2.images (octets_part s.present.tag 0 64 state.in_range.tag_octets) (octets_part s.present.tag 64 1728 state.in_range.tag_octets))
+      (dist_good s is.0 is.1 d.images state is.2.is_record is.2.images (laws.of_part s.present.tag 64 1728 state.in_range.tag_octets))

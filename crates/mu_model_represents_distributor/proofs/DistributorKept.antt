@@ -10,16 +10,17 @@ use Rattle.mu_model_distributor.specs.DistState.{Receiver, StoredImage, UploadJo
 use Rattle.mu_model_distributor.specs.declared.DistPhase.{DistPhase}
 use Rattle.mu_model_distributor.specs.Receivers.{is_stored_in}
 use Rattle.mu_model_distributor.specs.Sound.{AreReceivers, AreSettings, AreStored, BanksDiffer, HasUploadJob, HasUpload, IsDistDurable}
-use Rattle.mu_model_represents.specs.BlobPart.{blob_part, note_part, IsBlobPart, HasBlobRules, blob_octets, PartFits}
+use Rattle.mu_model_represents.specs.BlobPart.{blob_part, note_part, IsBlobPart, HasBlobRules, PartFits}
 use Rattle.mu_model_represents.specs.Images.{IsSealed, is_among, AllDiffer, HasImage}
-use Rattle.mu_model_represents.specs.DistributorNote.{UploadActive, SpellsDistributor, distributor_octets}
-use Rattle.mu_model_represents.specs.Numbers.{HasUploadMtu, HasDistributorNumbers}
-use Rattle.mu_model_represents.specs.RepresentsDistributor.{HasUploadOf, UploadGoesWith, HasStored, upload_job_in, upload_by, part_of_upload, phase_of_upload, bank_of, note_of_distributor, distributor_tag, IsDistributorOf}
+use Rattle.mu_model_represents_distributor.specs.DistributorNote.{UploadActive, SpellsDistributor, distributor_octets}
+use Rattle.mu_model_represents.specs.Laws.{ParametersOfBlocksFit}
+use Rattle.mu_model_represents.specs.Octets.{TagLaws}
+use Rattle.mu_model_represents.specs.Written.{BlobPartIsReadBack}
+use Rattle.mu_model_represents_distributor.specs.Numbers.{HasUploadMtu, HasDistributorNumbers}
+use Rattle.mu_model_represents_distributor.specs.RepresentsDistributor.{HasUploadOf, UploadGoesWith, HasStored, upload_job_in, upload_by, part_of_upload, phase_of_upload, bank_of, note_of_distributor, distributor_tag, IsDistributorOf}
 use Rattle.mu_model_record.specs.ChangeLaws.{IsTag}
-use Rattle.mu_model_represents.specs.Written.{KeepsUpload, KeepsUploads, KeepsDistributor}
-use Rattle.mu_model_represents.proofs.BlobWritten.{part_written, length_part, part_octets}
-use Rattle.mu_model_represents.proofs.DistributorWritten.{FitSettings, FitsRow, FitsDistributor, distributor_written, length_distributor, octets_distributor}
-use Rattle.mu_model_represents.proofs.NodeWritten.{blob_of_tag, note_of_tag, tag_of, fit_parameters, has_sealed}
+use Rattle.mu_model_represents_distributor.specs.Written.{KeepsUpload, KeepsUploads, KeepsDistributor}
+use Rattle.mu_model_represents_distributor.proofs.DistributorWritten.{FitSettings, FitsRow, FitsDistributor, distributor_written, length_distributor, octets_distributor}
 
 -- ---- four banks have at most four images
 
@@ -86,7 +87,7 @@ banks_low capacity (x ∷ xs) are = (omega (arith, are.0.bank), banks_low capaci
 module _ (s : StoreState) where
   all_sealed : (xs : List StoredImage) → AllByRecursion (λ (x : StoredImage). HasImage s x.bank x.image) xs → AllByRecursion (λ (b : ℕ). IsSealed (entry_of s.present b)) (map bank_of xs)
   all_sealed [] all = tt
-  all_sealed (x ∷ xs) all = (has_sealed s x.bank x.image all.0, all_sealed xs all.1)
+  all_sealed (x ∷ xs) all = (subst IsSealed (sym all.0.entry) tt, all_sealed xs all.1)
 
   all_stored : (xs : List StoredImage) → AllByRecursion (λ (x : StoredImage). HasImage s x.bank x.image) xs → AllZip (HasStored s) (map bank_of xs) xs
   all_stored [] all = tt
@@ -149,7 +150,7 @@ note_fits d sound = record {
   upload_meta = sound.upload_meta;
 }
 
-module _ (d : DistDurable) (sound : IsDistDurable d) where
+module _ (fit : ParametersOfBlocksFit) (d : DistDurable) (sound : IsDistDurable d) where
   part_fits : (job : Option UploadJob) → HasUploadJob d.capacity d.images d.upload_meta job → HasUploadMtu job → PartFits (part_of_upload job)
   part_fits None is mtu = tt
   part_fits (Some j) is mtu = record {
@@ -157,9 +158,10 @@ module _ (d : DistDurable) (sound : IsDistDurable d) where
     size = omega (arith, is.size, is.meta.size);
     base = is.base;
     bank = omega (arith, is.bank);
-    parameters = fit_parameters j.transfer.size j.transfer.parameters j.transfer.held is.blocks mtu;
+    parameters = fit j.transfer.size j.transfer.parameters j.transfer.held is.blocks mtu;
   }
 
+module _ (d : DistDurable) (sound : IsDistDurable d) where
   part_rules : (s : StoreState) → KeepsDistributor s d → (job : Option UploadJob) → HasUploadJob d.capacity d.images d.upload_meta job → KeepsUploads s job → HasBlobRules s.present (part_of_upload job)
   part_rules s keeps None is kept = kept
   part_rules s keeps (Some j) is kept = record {
@@ -194,50 +196,53 @@ upload_goes Uploaded phase h = refl
 
 -- ---- the tag
 
-pub distributor_is_tag : (d : DistDurable) → IsDistDurable d → HasDistributorNumbers d → IsTag (distributor_tag d)
-distributor_is_tag d sound numbers =
-    let part = part_of_upload (job_of d.upload) in
-    let fits = (part_fits d sound) (job_of d.upload) sound.upload_job numbers.mtu in
-    let note = note_fits d sound in
-    tag_of (blob_octets part) (distributor_octets (note_of_distributor d)) (length_part part) (length_distributor (note_of_distributor d) note) (part_octets part fits) (octets_distributor (note_of_distributor d) note)
+module _ (t : TagLaws) (read : BlobPartIsReadBack) (fit : ParametersOfBlocksFit) where
+  -- both parts are read back
+  both_back : (d : DistDurable) → IsDistDurable d → HasDistributorNumbers d
+      → IsTag (distributor_tag d) × IsBlobPart (part_of_upload (job_of d.upload)) (blob_part (distributor_tag d)) × (note_part (distributor_tag d) ≡ distributor_octets (note_of_distributor d))
+  both_back d sound numbers =
+      let note = note_fits d sound in
+      read (part_of_upload (job_of d.upload)) (distributor_octets (note_of_distributor d)) ((part_fits fit d sound) (job_of d.upload) sound.upload_job numbers.mtu)
+      (length_distributor t (note_of_distributor d) note) (octets_distributor t (note_of_distributor d) note)
 
-pub distributor_read_back : (s : StoreState) (d : DistDurable) → IsDistDurable d → HasDistributorNumbers d → KeepsDistributor s d → s.present.tag ≡ distributor_tag d → IsDistributorOf s (part_of_upload (job_of d.upload)) (note_of_distributor d) d
-distributor_read_back s d sound numbers keeps tag =
-    let part = part_of_upload (job_of d.upload) in
-    let n = note_of_distributor d in
-    let fits = (part_fits d sound) (job_of d.upload) sound.upload_job numbers.mtu in
-    let note = note_fits d sound in
-    let first = sym (ap blob_part tag ∙ blob_of_tag (blob_octets part) (distributor_octets n) (length_part part)) in
-    let second = sym (ap note_part tag ∙ note_of_tag (blob_octets part) (distributor_octets n) (length_part part) (length_distributor n note)) in
-    record {
-      is_record = record {
-        four_banks = keeps.four_banks;
-        blob = record {
-          octets = subst (λ (xs : List ℕ). IsBlobPart part xs) first (part_written part fits);
-          rules = (part_rules d sound) s keeps (job_of d.upload) sound.upload_job keeps.upload;
+  pub distributor_is_tag : (d : DistDurable) → IsDistDurable d → HasDistributorNumbers d → IsTag (distributor_tag d)
+  distributor_is_tag d sound numbers = (both_back d sound numbers).0
+
+  pub distributor_read_back : (s : StoreState) (d : DistDurable) → IsDistDurable d → HasDistributorNumbers d → KeepsDistributor s d → s.present.tag ≡ distributor_tag d → IsDistributorOf s (part_of_upload (job_of d.upload)) (note_of_distributor d) d
+  distributor_read_back s d sound numbers keeps tag =
+      let part = part_of_upload (job_of d.upload) in
+      let n = note_of_distributor d in
+      let back = both_back d sound numbers in
+      let second = sym (ap note_part tag ∙ back.2) in
+      record {
+        is_record = record {
+          four_banks = keeps.four_banks;
+          blob = record {
+            octets = subst (λ (xs : List ℕ). IsBlobPart part (blob_part xs)) (sym tag) back.1;
+            rules = (part_rules d sound) s keeps (job_of d.upload) sound.upload_job keeps.upload;
+          };
+          note_octets = subst (λ (xs : List ℕ). SpellsDistributor n xs) second (distributor_written t n (note_fits d sound));
+          banks_differ = all_differ d.images sound.banks;
+          banks_sealed = (all_sealed s) d.images keeps.images;
+          all_sealed = λ b h. among_is d.images b ∙ keeps.no_other b h;
+          counter = sound.counter;
+          unbegun = sound.unbegun;
+          begun = sound.begun;
+          image = λ runs. subst (λ (m : ℕ). d.settings.image < m) (sym (length-map d.images bank_of)) (sound.image runs);
+          some_receiver = sound.some_receiver;
+          receivers = sound.receivers;
+          addresses = sound.addresses;
+          upload = upload_goes d.upload d.phase sound.upload;
+          upload_job = (upload_of d sound) s (job_of d.upload) sound.upload_job keeps.upload;
         };
-        note_octets = subst (λ (xs : List ℕ). SpellsDistributor n xs) second (distributor_written n note);
-        banks_differ = all_differ d.images sound.banks;
-        banks_sealed = (all_sealed s) d.images keeps.images;
-        all_sealed = λ b h. among_is d.images b ∙ keeps.no_other b h;
-        counter = sound.counter;
-        unbegun = sound.unbegun;
-        begun = sound.begun;
-        image = λ runs. subst (λ (m : ℕ). d.settings.image < m) (sym (length-map d.images bank_of)) (sound.image runs);
-        some_receiver = sound.some_receiver;
-        receivers = sound.receivers;
-        addresses = sound.addresses;
-        upload = upload_goes d.upload d.phase sound.upload;
-        upload_job = (upload_of d sound) s (job_of d.upload) sound.upload_job keeps.upload;
-      };
-      count = keeps.count;
-      capacity = keeps.capacity;
-      images = (all_stored s) d.images keeps.images;
-      phase = refl;
-      counter = refl;
-      settings = refl;
-      receivers = refl;
-      upload_ttl = refl;
-      upload_meta = refl;
-      upload = upload_same s d.upload keeps.upload;
-    }
+        count = keeps.count;
+        capacity = keeps.capacity;
+        images = (all_stored s) d.images keeps.images;
+        phase = refl;
+        counter = refl;
+        settings = refl;
+        receivers = refl;
+        upload_ttl = refl;
+        upload_meta = refl;
+        upload = upload_same s d.upload keeps.upload;
+      }

@@ -15,7 +15,7 @@ use Rattle.mu_model_distributor.specs.DistState.{StoredImage, UploadJob, Upload,
 use Rattle.mu_model_distributor.specs.Sound.{AreSettings, no_settings, AreReceivers, AddressesDiffer}
 use Rattle.mu_model_represents.specs.BlobPart.{BlobJob, note_part, IsBlobRecord, transfer_in, blob_octets}
 use Rattle.mu_model_represents.specs.Images.{IsSealed, is_among, AllDiffer, HasImage}
-use Rattle.mu_model_represents.specs.DistributorNote.{UploadPhase, UploadIdle, UploadActive, UploadError, UploadSuccess, DistributorNote, SpellsDistributor, distributor_octets}
+use Rattle.mu_model_represents_distributor.specs.DistributorNote.{UploadPhase, UploadIdle, UploadActive, UploadError, UploadSuccess, DistributorNote, SpellsDistributor, distributor_octets}
 
 -- ---- the rules on a distributor's record
 

@@ -9,10 +9,11 @@ use Rattle.mu_model_distributor.specs.declared.Settings.{Settings}
 use Rattle.mu_model_distributor.specs.declared.DistPhase.{DistPhase}
 use Rattle.mu_model_distributor.specs.declared.DistPhase.TheVariants.{Idle, TransferActive, TransferSuccess, ApplyingUpdate, Completed, Failed, CancelingUpdate, TransferSuspended}
 use Rattle.mu_model_distributor.specs.DistState.{Receiver, StoredImage, DistDurable, dist_number}
-use Rattle.mu_model_represents.specs.BlobPart.{BlobJob, blob_part, note_part}
-use Rattle.mu_model_represents.specs.DistributorNote.{UploadPhase, UploadIdle, UploadActive, UploadError, UploadSuccess, upload_phase_number, DistributorNote, SpellsSettings, SpellsReceiver, IsRow, SpellsDistributor}
-use Rattle.mu_model_represents.specs.RepresentsDistributor.{HasStored, upload_job_in, upload_by, IsDistributorOf, IsDistributor}
-use Rattle.mu_model_represents.proofs.NodeOnce.{part_once, image_once}
+use Rattle.mu_model_represents.specs.BlobPart.{BlobJob, note_part}
+use Rattle.mu_model_represents.specs.Images.{BankIsOneImage}
+use Rattle.mu_model_represents.specs.Laws.{BlobPartIsOne}
+use Rattle.mu_model_represents_distributor.specs.DistributorNote.{UploadPhase, UploadIdle, UploadActive, UploadError, UploadSuccess, upload_phase_number, DistributorNote, SpellsSettings, SpellsReceiver, IsRow, SpellsDistributor}
+use Rattle.mu_model_represents_distributor.specs.RepresentsDistributor.{HasStored, upload_job_in, upload_by, IsDistributorOf, IsDistributor}
 
 -- ---- phases, by a way back from their numbers
 
@@ -91,26 +92,26 @@ distributor_note_once a b octets h g =
 
 -- ---- the distributor
 
-stored_once : (s : StoreState) (bank : ℕ) (x y : StoredImage) → HasStored s bank x → HasStored s bank y → x ≡ y
-stored_once s bank x y h g =
+stored_once : BankIsOneImage → (s : StoreState) (bank : ℕ) (x y : StoredImage) → HasStored s bank x → HasStored s bank y → x ≡ y
+stored_once one s bank x y h g =
     let at : x.bank ≡ y.bank = h.there ∙ sym g.there in
-    let image : x.image ≡ y.image = image_once s bank x.image y.image h.image g.image in
+    let image : x.image ≡ y.image = one s bank x.image y.image h.image g.image in
     λ i. record { bank = at i; image = image i }
 
-all_stored_once : (s : StoreState) (banks : List ℕ) (xs ys : List StoredImage) → AllZip (HasStored s) banks xs → AllZip (HasStored s) banks ys → xs ≡ ys
-all_stored_once s [] [] [] h g = refl
-all_stored_once s [] [] (y ∷ ys) h g = absurd g
-all_stored_once s [] (x ∷ xs) ys h g = absurd h
-all_stored_once s (b ∷ banks) [] ys h g = absurd h
-all_stored_once s (b ∷ banks) (x ∷ xs) [] h g = absurd g
-all_stored_once s (b ∷ banks) (x ∷ xs) (y ∷ ys) h g = let e = stored_once s b x y h.0 g.0 in let es = all_stored_once s banks xs ys h.1 g.1 in λ i. e i ∷ es i
+all_stored_once : BankIsOneImage → (s : StoreState) (banks : List ℕ) (xs ys : List StoredImage) → AllZip (HasStored s) banks xs → AllZip (HasStored s) banks ys → xs ≡ ys
+all_stored_once one s [] [] [] h g = refl
+all_stored_once one s [] [] (y ∷ ys) h g = absurd g
+all_stored_once one s [] (x ∷ xs) ys h g = absurd h
+all_stored_once one s (b ∷ banks) [] ys h g = absurd h
+all_stored_once one s (b ∷ banks) (x ∷ xs) [] h g = absurd g
+all_stored_once one s (b ∷ banks) (x ∷ xs) (y ∷ ys) h g = let e = stored_once one s b x y h.0 g.0 in let es = all_stored_once one s banks xs ys h.1 g.1 in λ i. e i ∷ es i
 
-module _ (s : StoreState) (d e : DistDurable) where
+module _ (job : BlobPartIsOne) (one : BankIsOneImage) (s : StoreState) (d e : DistDurable) where
   same_parts : (p q : Option BlobJob) (a b : DistributorNote) → p ≡ q → a ≡ b → IsDistributorOf s p a d → IsDistributorOf s q b e → d ≡ e
   same_parts p q a b part note h g =
       let count : d.count ≡ e.count = h.count ∙ sym g.count in
       let capacity : d.capacity ≡ e.capacity = h.capacity ∙ sym g.capacity in
-      let images : d.images ≡ e.images = all_stored_once s a.banks d.images e.images h.images (subst (λ (n : DistributorNote). AllZip (HasStored s) n.banks e.images) (sym note) g.images) in
+      let images : d.images ≡ e.images = all_stored_once one s a.banks d.images e.images h.images (subst (λ (n : DistributorNote). AllZip (HasStored s) n.banks e.images) (sym note) g.images) in
       let phase : d.phase ≡ e.phase = h.phase ∙ ap (λ (n : DistributorNote). n.phase) note ∙ sym g.phase in
       let counter : d.counter ≡ e.counter = h.counter ∙ ap (λ (n : DistributorNote). n.counter) note ∙ sym g.counter in
       let settings : d.settings ≡ e.settings = h.settings ∙ ap (λ (n : DistributorNote). n.settings) note ∙ sym g.settings in
@@ -133,6 +134,6 @@ module _ (s : StoreState) (d e : DistDurable) where
 
   pub distributor_once : IsDistributor s d → IsDistributor s e → d ≡ e
   distributor_once h g =
-      let part = part_once h.0 g.0 (blob_part s.present.tag) h.2.is_record.blob.octets g.2.is_record.blob.octets in
+      let part = job s.present h.0 g.0 h.2.is_record.blob g.2.is_record.blob in
       let note = distributor_note_once h.1 g.1 (note_part s.present.tag) h.2.is_record.note_octets g.2.is_record.note_octets in
       same_parts h.0 g.0 h.1 g.1 part note h.2 g.2

@@ -14,9 +14,8 @@ use Rattle.mu_model_distributor.specs.declared.DistPhase.{DistPhase}
 use Rattle.mu_model_distributor.specs.declared.DistPhase.TheVariants.{Idle, TransferActive, TransferSuccess, ApplyingUpdate, Completed, Failed, CancelingUpdate, TransferSuspended}
 use Rattle.mu_model_distributor.specs.DistState.{Receiver, dist_number}
 use Rattle.mu_model_distributor.specs.Sound.{AreMetaNumbers}
-use Rattle.mu_model_represents.specs.DistributorNote.{UploadPhase, UploadIdle, UploadActive, UploadError, UploadSuccess, upload_phase_number, DistributorNote, IsRow, SpellsDistributor, receiver_octets, settings_octets, bank_octets, head_octets, distributor_octets}
-use Rattle.mu_model_represents.proofs.Octets.{octets_none, octets_cons, octets_append, octets_all, octets_zeros, octets_little, part_past, part_whole, part_zeros, length_zeros}
-use Rattle.mu_model_represents.proofs.NoteWritten.{octets_meta}
+use Rattle.mu_model_represents_distributor.specs.DistributorNote.{UploadPhase, UploadIdle, UploadActive, UploadError, UploadSuccess, upload_phase_number, DistributorNote, IsRow, SpellsDistributor, receiver_octets, settings_octets, bank_octets, head_octets, distributor_octets}
+use Rattle.mu_model_represents.specs.Octets.{TagLaws}
 
 -- ---- what has its places
 
@@ -55,20 +54,20 @@ length_rows (r ∷ rs) = let rest = length_rows rs in omega (arith, rest)
 next_row : (k : ℕ) → 6 * suc k ≡ 6 + 6 * k
 next_row k = omega arith
 
-row_at : (rs : List Receiver) (m k : ℕ) → AllByRecursion FitsRow rs → 6 * k + 6 ≤ 6 * length rs + m → IsRow (slice_get rs k) (part_of (flat_map receiver_octets rs ++ zeros m) (6 * k) 6)
+row_at : TagLaws → (rs : List Receiver) (m k : ℕ) → AllByRecursion FitsRow rs → 6 * k + 6 ≤ 6 * length rs + m → IsRow (slice_get rs k) (part_of (flat_map receiver_octets rs ++ zeros m) (6 * k) 6)
 unfolding part_of
-row_at [] m k are within = part_zeros m (6 * k) 6 (omega arith)
-row_at (r ∷ rs) m zero are within = record {
+row_at t [] m k are within = t.joins.part_zeros m (6 * k) 6 (omega arith)
+row_at t (r ∷ rs) m zero are within = record {
   address_at_0 = little_number-reads_back 2 r.address (r.index ∷ r.phase ∷ r.update_status ∷ r.transfer_status ∷ []) are.0.address;
   index_at_2 = refl;
   phase_at_3 = refl;
   update_status_at_4 = refl;
   transfer_status_at_5 = refl;
 }
-row_at (r ∷ rs) m (suc k) are within =
-    let rest : IsRow (slice_get rs k) (part_of (flat_map receiver_octets rs ++ zeros m) (6 * k) 6) = row_at rs m k are.1 (omega arith) in
+row_at t (r ∷ rs) m (suc k) are within =
+    let rest : IsRow (slice_get rs k) (part_of (flat_map receiver_octets rs ++ zeros m) (6 * k) 6) = row_at t rs m k are.1 (omega arith) in
     let place : part_of (flat_map receiver_octets (r ∷ rs) ++ zeros m) (6 * suc k) 6 ≡ part_of (flat_map receiver_octets rs ++ zeros m) (6 * k) 6 =
-    ap (λ (p : ℕ). part_of (flat_map receiver_octets (r ∷ rs) ++ zeros m) p 6) (next_row k) ∙ part_past (receiver_octets r) (flat_map receiver_octets rs ++ zeros m) 6 (6 * k) 6 refl in
+    ap (λ (p : ℕ). part_of (flat_map receiver_octets (r ∷ rs) ++ zeros m) p 6) (next_row k) ∙ t.joins.part_past (receiver_octets r) (flat_map receiver_octets rs ++ zeros m) 6 (6 * k) 6 refl in
     subst (λ (xs : List ℕ). IsRow (slice_get rs k) xs) (sym place) rest
 
 -- ---- metadata, also of no size
@@ -90,7 +89,7 @@ mode_back m p lt = omega arith
 policy_back : (m p : ℕ) → m < 4 → (m + 4 * p) / 4 ≡ p
 policy_back m p lt = omega arith
 
-module _ (n : DistributorNote) (fits : FitsDistributor n) where
+module _ (t : TagLaws) (n : DistributorNote) (fits : FitsDistributor n) where
   abbrev octets : List ℕ
   octets = distributor_octets n
 
@@ -110,10 +109,10 @@ module _ (n : DistributorNote) (fits : FitsDistributor n) where
 
   -- past the metadata
   past_meta : (k m : ℕ) → part_of octets (68 + k) m ≡ part_of (zeros 60 ++ rows) k m
-  past_meta k m = part_past (head_octets n ++ meta_octets n.upload_meta) (zeros 60 ++ rows) 68 k m (omega (arith, length_meta n.upload_meta fits.upload_meta.digest_length))
+  past_meta k m = t.joins.part_past (head_octets n ++ meta_octets n.upload_meta) (zeros 60 ++ rows) 68 k m (omega (arith, length_meta n.upload_meta fits.upload_meta.digest_length))
 
   past_zeros : (k m : ℕ) → part_of octets (128 + k) m ≡ part_of rows k m
-  past_zeros k m = ap (λ (p : ℕ). part_of octets p m) (place k) ∙ past_meta (60 + k) m ∙ part_past (zeros 60) rows 60 k m (length_zeros 60)
+  past_zeros k m = ap (λ (p : ℕ). part_of octets p m) (place k) ∙ past_meta (60 + k) m ∙ t.joins.part_past (zeros 60) rows 60 k m (t.joins.length_zeros 60)
     where
       place : (k : ℕ) → 128 + k ≡ 68 + (60 + k)
       place k = omega arith
@@ -124,8 +123,8 @@ module _ (n : DistributorNote) (fits : FitsDistributor n) where
       let place : 768 ≡ 6 * length n.receivers + (768 - 6 * length n.receivers) = omega (arith, fits.few_receivers) in
       past_zeros 768 832
       ∙ ap (λ (p : ℕ). part_of rows p 832) place
-      ∙ part_past (flat_map receiver_octets n.receivers) (zeros (1600 - 6 * length n.receivers)) (6 * length n.receivers) (768 - 6 * length n.receivers) 832 (length_rows n.receivers)
-      ∙ part_zeros (1600 - 6 * length n.receivers) (768 - 6 * length n.receivers) 832 (omega (arith, fits.few_receivers))
+      ∙ t.joins.part_past (flat_map receiver_octets n.receivers) (zeros (1600 - 6 * length n.receivers)) (6 * length n.receivers) (768 - 6 * length n.receivers) 832 (length_rows n.receivers)
+      ∙ t.joins.part_zeros (1600 - 6 * length n.receivers) (768 - 6 * length n.receivers) 832 (omega (arith, fits.few_receivers))
 
   pub distributor_written : SpellsDistributor n (distributor_octets n)
   distributor_written = record {
@@ -149,8 +148,8 @@ module _ (n : DistributorNote) (fits : FitsDistributor n) where
     few_receivers = fits.few_receivers;
     upload_ttl_at_27 = refl;
     upload_metadata_at_28 = ap meta_of meta_part ∙ meta_back n.upload_meta fits.upload_meta.size fits.upload_meta.version;
-    zero_at_68 = past_meta 0 60 ∙ part_whole (zeros 60) rows 60 (length_zeros 60);
-    rows_at_128 = λ k lt. subst (λ (xs : List ℕ). IsRow (slice_get n.receivers k) xs) (sym (past_zeros (6 * k) 6)) (row_at n.receivers (1600 - 6 * length n.receivers) k fits.receivers (omega (arith, lt, fits.few_receivers)));
+    zero_at_68 = past_meta 0 60 ∙ t.joins.part_whole (zeros 60) rows 60 (t.joins.length_zeros 60);
+    rows_at_128 = λ k lt. subst (λ (xs : List ℕ). IsRow (slice_get n.receivers k) xs) (sym (past_zeros (6 * k) 6)) (row_at t n.receivers (1600 - 6 * length n.receivers) k fits.receivers (omega (arith, lt, fits.few_receivers)));
     zero_at_896 = last;
   }
 
@@ -160,10 +159,10 @@ module _ (n : DistributorNote) (fits : FitsDistributor n) where
     length-append (meta_octets n.upload_meta) (zeros 60 ++ rows),
     length_meta n.upload_meta fits.upload_meta.digest_length,
     length-append (zeros 60) rows,
-    length_zeros 60,
+    t.joins.length_zeros 60,
     length-append (flat_map receiver_octets n.receivers) (zeros (1600 - 6 * length n.receivers)),
     length_rows n.receivers,
-    length_zeros (1600 - 6 * length n.receivers),
+    t.joins.length_zeros (1600 - 6 * length n.receivers),
     fits.few_receivers,
   )
 
@@ -190,46 +189,46 @@ bank_small [] all k = omega arith
 bank_small (b ∷ banks) all zero = all.0
 bank_small (b ∷ banks) all (suc k) = bank_small banks all.1 k
 
-octets_rows : (rs : List Receiver) → AllByRecursion FitsRow rs → AreOctets (flat_map receiver_octets rs)
-octets_rows [] are = octets_none
-octets_rows (r ∷ rs) are = octets_append (receiver_octets r) (flat_map receiver_octets rs)
-    (octets_append (little_bytes 2 r.address) (r.index ∷ r.phase ∷ r.update_status ∷ r.transfer_status ∷ []) (octets_little 2 r.address)
-    (octets_cons r.index (r.phase ∷ r.update_status ∷ r.transfer_status ∷ []) are.0.index
-    (octets_cons r.phase (r.update_status ∷ r.transfer_status ∷ []) are.0.phase
-    (octets_cons r.update_status (r.transfer_status ∷ []) are.0.update_status (octets_cons r.transfer_status [] are.0.transfer_status octets_none)))))
-    (octets_rows rs are.1)
+octets_rows : TagLaws → (rs : List Receiver) → AllByRecursion FitsRow rs → AreOctets (flat_map receiver_octets rs)
+octets_rows t [] are = t.octets.of_none
+octets_rows t (r ∷ rs) are = t.octets.of_append (receiver_octets r) (flat_map receiver_octets rs)
+    (t.octets.of_append (little_bytes 2 r.address) (r.index ∷ r.phase ∷ r.update_status ∷ r.transfer_status ∷ []) (t.octets.of_little 2 r.address)
+    (t.octets.of_cons r.index (r.phase ∷ r.update_status ∷ r.transfer_status ∷ []) are.0.index
+    (t.octets.of_cons r.phase (r.update_status ∷ r.transfer_status ∷ []) are.0.phase
+    (t.octets.of_cons r.update_status (r.transfer_status ∷ []) are.0.update_status (t.octets.of_cons r.transfer_status [] are.0.transfer_status t.octets.of_none)))))
+    (octets_rows t rs are.1)
 
-octets_settings : (s : Settings) → FitSettings s → AreOctets (settings_octets s)
-octets_settings s fits =
-    let last = octets_append (little_bytes 2 s.image) (little_bytes 2 s.group ++ little_bytes 2 s.appkey) (octets_little 2 s.image) (octets_append (little_bytes 2 s.group) (little_bytes 2 s.appkey) (octets_little 2 s.group) (octets_little 2 s.appkey)) in
-    let mode = octets_cons (s.mode + 4 * s.policy) (little_bytes 2 s.image ++ (little_bytes 2 s.group ++ little_bytes 2 s.appkey)) (omega (arith, fits.mode, fits.policy)) last in
-    octets_cons s.ttl (little_bytes 2 s.base ++ ((s.mode + 4 * s.policy) ∷ (little_bytes 2 s.image ++ (little_bytes 2 s.group ++ little_bytes 2 s.appkey)))) fits.ttl
-    (octets_append (little_bytes 2 s.base) ((s.mode + 4 * s.policy) ∷ (little_bytes 2 s.image ++ (little_bytes 2 s.group ++ little_bytes 2 s.appkey))) (octets_little 2 s.base) mode)
+octets_settings : TagLaws → (s : Settings) → FitSettings s → AreOctets (settings_octets s)
+octets_settings t s fits =
+    let last = t.octets.of_append (little_bytes 2 s.image) (little_bytes 2 s.group ++ little_bytes 2 s.appkey) (t.octets.of_little 2 s.image) (t.octets.of_append (little_bytes 2 s.group) (little_bytes 2 s.appkey) (t.octets.of_little 2 s.group) (t.octets.of_little 2 s.appkey)) in
+    let mode = t.octets.of_cons (s.mode + 4 * s.policy) (little_bytes 2 s.image ++ (little_bytes 2 s.group ++ little_bytes 2 s.appkey)) (omega (arith, fits.mode, fits.policy)) last in
+    t.octets.of_cons s.ttl (little_bytes 2 s.base ++ ((s.mode + 4 * s.policy) ∷ (little_bytes 2 s.image ++ (little_bytes 2 s.group ++ little_bytes 2 s.appkey)))) fits.ttl
+    (t.octets.of_append (little_bytes 2 s.base) ((s.mode + 4 * s.policy) ∷ (little_bytes 2 s.image ++ (little_bytes 2 s.group ++ little_bytes 2 s.appkey))) (t.octets.of_little 2 s.base) mode)
 
-octets_banks : (banks : List ℕ) → AllByRecursion (λ (b : ℕ). b < 256) banks → AreOctets (bank_octets banks)
-octets_banks banks all =
+octets_banks : TagLaws → (banks : List ℕ) → AllByRecursion (λ (b : ℕ). b < 256) banks → AreOctets (bank_octets banks)
+octets_banks t banks all =
     let at : (k : ℕ) → slice_index_or banks k 0 < 256 = bank_small banks all in
-    octets_cons (slice_index_or banks 0 0) (slice_index_or banks 1 0 ∷ slice_index_or banks 2 0 ∷ slice_index_or banks 3 0 ∷ []) (at 0)
-    (octets_cons (slice_index_or banks 1 0) (slice_index_or banks 2 0 ∷ slice_index_or banks 3 0 ∷ []) (at 1)
-    (octets_cons (slice_index_or banks 2 0) (slice_index_or banks 3 0 ∷ []) (at 2) (octets_cons (slice_index_or banks 3 0) [] (at 3) octets_none)))
+    t.octets.of_cons (slice_index_or banks 0 0) (slice_index_or banks 1 0 ∷ slice_index_or banks 2 0 ∷ slice_index_or banks 3 0 ∷ []) (at 0)
+    (t.octets.of_cons (slice_index_or banks 1 0) (slice_index_or banks 2 0 ∷ slice_index_or banks 3 0 ∷ []) (at 1)
+    (t.octets.of_cons (slice_index_or banks 2 0) (slice_index_or banks 3 0 ∷ []) (at 2) (t.octets.of_cons (slice_index_or banks 3 0) [] (at 3) t.octets.of_none)))
 
-module _ (n : DistributorNote) (fits : FitsDistributor n) where
+module _ (t : TagLaws) (n : DistributorNote) (fits : FitsDistributor n) where
   octets_head : AreOctets (head_octets n)
   octets_head =
-      let ends = octets_cons (length n.receivers) (n.upload_ttl ∷ []) (omega (arith, fits.few_receivers)) (octets_cons n.upload_ttl [] fits.upload_ttl octets_none) in
-      let settings = octets_append (settings_octets n.settings) (length n.receivers ∷ n.upload_ttl ∷ []) (octets_settings n.settings fits.settings) ends in
-      let counter = octets_append (little_bytes 8 n.counter) (settings_octets n.settings ++ (length n.receivers ∷ n.upload_ttl ∷ [])) (octets_little 8 n.counter) settings in
-      let banks = octets_append (bank_octets n.banks) (little_bytes 8 n.counter ++ (settings_octets n.settings ++ (length n.receivers ∷ n.upload_ttl ∷ []))) (octets_banks n.banks fits.banks) counter in
+      let ends = t.octets.of_cons (length n.receivers) (n.upload_ttl ∷ []) (omega (arith, fits.few_receivers)) (t.octets.of_cons n.upload_ttl [] fits.upload_ttl t.octets.of_none) in
+      let settings = t.octets.of_append (settings_octets n.settings) (length n.receivers ∷ n.upload_ttl ∷ []) (octets_settings t n.settings fits.settings) ends in
+      let counter = t.octets.of_append (little_bytes 8 n.counter) (settings_octets n.settings ++ (length n.receivers ∷ n.upload_ttl ∷ [])) (t.octets.of_little 8 n.counter) settings in
+      let banks = t.octets.of_append (bank_octets n.banks) (little_bytes 8 n.counter ++ (settings_octets n.settings ++ (length n.receivers ∷ n.upload_ttl ∷ []))) (octets_banks t n.banks fits.banks) counter in
       let rest = bank_octets n.banks ++ (little_bytes 8 n.counter ++ (settings_octets n.settings ++ (length n.receivers ∷ n.upload_ttl ∷ []))) in
-      octets_cons 2 (dist_number n.phase ∷ upload_phase_number n.upload ∷ length n.banks ∷ rest) (omega arith)
-      (octets_cons (dist_number n.phase) (upload_phase_number n.upload ∷ length n.banks ∷ rest) (phase_small n.phase)
-      (octets_cons (upload_phase_number n.upload) (length n.banks ∷ rest) (upload_small n.upload) (octets_cons (length n.banks) rest (omega (arith, fits.few_images)) banks)))
+      t.octets.of_cons 2 (dist_number n.phase ∷ upload_phase_number n.upload ∷ length n.banks ∷ rest) (omega arith)
+      (t.octets.of_cons (dist_number n.phase) (upload_phase_number n.upload ∷ length n.banks ∷ rest) (phase_small n.phase)
+      (t.octets.of_cons (upload_phase_number n.upload) (length n.banks ∷ rest) (upload_small n.upload) (t.octets.of_cons (length n.banks) rest (omega (arith, fits.few_images)) banks)))
 
   pub octets_distributor : AreOctets (distributor_octets n)
   octets_distributor =
       let zero = zeros (1600 - 6 * length n.receivers) in
-      let rows = octets_append (flat_map receiver_octets n.receivers) zero (octets_rows n.receivers fits.receivers) (octets_zeros (1600 - 6 * length n.receivers)) in
-      let gap = octets_append (zeros 60) (flat_map receiver_octets n.receivers ++ zero) (octets_zeros 60) rows in
-      let meta = octets_append (meta_octets n.upload_meta) (zeros 60 ++ (flat_map receiver_octets n.receivers ++ zero))
-      (octets_meta n.upload_meta fits.upload_meta.digest_length (octets_all n.upload_meta.digest fits.upload_meta.digest_octets)) gap in
-      octets_append (head_octets n) (meta_octets n.upload_meta ++ (zeros 60 ++ (flat_map receiver_octets n.receivers ++ zero))) octets_head meta
+      let rows = t.octets.of_append (flat_map receiver_octets n.receivers) zero (octets_rows t n.receivers fits.receivers) (t.octets.of_zeros (1600 - 6 * length n.receivers)) in
+      let gap = t.octets.of_append (zeros 60) (flat_map receiver_octets n.receivers ++ zero) (t.octets.of_zeros 60) rows in
+      let meta = t.octets.of_append (meta_octets n.upload_meta) (zeros 60 ++ (flat_map receiver_octets n.receivers ++ zero))
+      (t.octets.of_meta n.upload_meta fits.upload_meta.digest_length (t.octets.of_all n.upload_meta.digest fits.upload_meta.digest_octets)) gap in
+      t.octets.of_append (head_octets n) (meta_octets n.upload_meta ++ (zeros 60 ++ (flat_map receiver_octets n.receivers ++ zero))) octets_head meta

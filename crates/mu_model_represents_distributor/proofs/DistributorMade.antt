@@ -15,14 +15,16 @@ use Rattle.mu_model_distributor.specs.DistState.{StoredImage, UploadJob, DistDur
 use Rattle.mu_model_distributor.specs.Receivers.{is_stored_in}
 use Rattle.mu_model_distributor.specs.Sound.{AreStored, BanksDiffer, IsUploadJob, HasUploadJob, IsDistDurable}
 use Rattle.mu_model_represents.specs.BlobPart.{TakesBy, BankGoesWith, NoneFilling, held_by}
-use Rattle.mu_model_represents.specs.Images.{IsSealed, HasImage}
-use Rattle.mu_model_represents.specs.Numbers.{HasDistributorNumbers}
+use Rattle.mu_model_represents.specs.Images.{IsSealed, HasImage, IsGoodImage}
+use Rattle.mu_model_represents.specs.Laws.{ParametersOfBlocksFit}
+use Rattle.mu_model_represents.specs.Made.{Plan, made, IsPlan, IsMade, StoresAreMade}
+use Rattle.mu_model_represents.specs.Octets.{TagLaws}
+use Rattle.mu_model_represents.specs.Written.{BlobPartIsReadBack}
+use Rattle.mu_model_represents_distributor.specs.Numbers.{HasDistributorNumbers}
 use Rattle.mu_model_represents.specs.StoreStates.{ContentOf, IsStoreState}
-use Rattle.mu_model_represents.specs.RepresentsDistributor.{UploadBank, IsDistributor, distributor_tag, part_of_upload, note_of_distributor}
-use Rattle.mu_model_represents.specs.Written.{KeepsUploads, KeepsDistributor}
-use Rattle.mu_model_represents.proofs.StoreLemmas.{IsGoodImage}
-use Rattle.mu_model_represents.proofs.Made.{Plan, made, IsPlan, has_image, entry_there, content_there, none_filling, sealed_image, is_made}
-use Rattle.mu_model_represents.proofs.DistributorKept.{distributor_is_tag, distributor_read_back}
+use Rattle.mu_model_represents_distributor.specs.RepresentsDistributor.{UploadBank, IsDistributor, distributor_tag, part_of_upload, note_of_distributor}
+use Rattle.mu_model_represents_distributor.specs.Written.{KeepsUploads, KeepsDistributor}
+use Rattle.mu_model_represents_distributor.proofs.DistributorKept.{distributor_is_tag, distributor_read_back}
 
 -- ---- images in their banks
 
@@ -142,7 +144,7 @@ good_bank capacity size slots (Some p) some room blocks = record {
 
 -- ---- the store
 
-module _ (d : DistDurable) (sound : IsDistDurable d) (numbers : HasDistributorNumbers d) where
+module _ (t : TagLaws) (read : BlobPartIsReadBack) (fit : ParametersOfBlocksFit) (law : StoresAreMade) (d : DistDurable) (sound : IsDistDurable d) (numbers : HasDistributorNumbers d) where
   abbrev pages : ℕ
   pages = sound.capacity.0
 
@@ -186,13 +188,16 @@ module _ (d : DistDurable) (sound : IsDistDurable d) (numbers : HasDistributorNu
     pages_most = sound.capacity.2;
     number_least = omega arith;
     number_most = omega arith;
-    tag = distributor_is_tag d sound numbers;
+    tag = distributor_is_tag t read fit d sound numbers;
     there = λ b x at. (placed_good d.capacity d.images sound.images b x at).low;
     good = λ b x at. subst (λ (n : ℕ). IsGoodImage n x) sound.capacity.3 (placed_good d.capacity d.images sound.images b x at).good;
     bank = bank_low (job_of d.upload) sound.upload_job;
     entry = range_of store.present (sym sound.capacity.3) (job_of d.upload) sound.upload_job;
     content = content_ok (job_of d.upload) sound.upload_job;
   }
+
+  of_plan : IsMade plan (placed_in d.images)
+  of_plan = law plan (placed_in d.images) is_plan
 
   keeps_job : (job : Option UploadJob) → HasUploadJob d.capacity d.images d.upload_meta job
       → (placed_in d.images (bank_of_job job) ≡ None → (entry_of store.present (bank_of_job job) ≡ entry_of_job job) × (content_of_bank store (bank_of_job job) ≡ content_of_job job))
@@ -209,18 +214,18 @@ module _ (d : DistDurable) (sound : IsDistDurable d) (numbers : HasDistributorNu
 
   images_there : (xs : List StoredImage) → AllByRecursion (λ (x : StoredImage). placed_in d.images x.bank ≡ Some x.image) xs → AllByRecursion (λ (x : StoredImage). HasImage store x.bank x.image) xs
   images_there [] all = tt
-  images_there (x ∷ xs) all = ((has_image plan (placed_in d.images) is_plan) x.bank x.image all.0, images_there xs all.1)
+  images_there (x ∷ xs) all = (of_plan.image x.bank x.image all.0, images_there xs all.1)
 
   keeps : KeepsDistributor store d
   keeps = record {
-    in_range = (is_made plan (placed_in d.images) is_plan).in_range;
+    in_range = of_plan.state.in_range;
     four_banks = refl;
     count = refl;
     capacity = sound.capacity.3;
     images = images_there d.images (in_place d.images sound.banks);
-    no_other = λ b h. let some = (sealed_image plan (placed_in d.images) is_plan) b (not_sealed (job_of d.upload) sound.upload_job) h in placed_stored d.images b some.0 some.1;
-    upload = keeps_job (job_of d.upload) sound.upload_job (λ none. ((entry_there plan (placed_in d.images) is_plan) none, (content_there plan (placed_in d.images) is_plan) none)) (none_filling plan (placed_in d.images) is_plan);
+    no_other = λ b h. let some = of_plan.sealed_image b (not_sealed (job_of d.upload) sound.upload_job) h in placed_stored d.images b some.0 some.1;
+    upload = keeps_job (job_of d.upload) sound.upload_job (λ none. (of_plan.entry none, of_plan.content none)) of_plan.none_filling;
   }
 
   pub distributor_made : (s : StoreState) × IsStoreState s × IsDistributor s d
-  distributor_made = (store, is_made plan (placed_in d.images) is_plan, (part_of_upload (job_of d.upload), note_of_distributor d, distributor_read_back store d sound numbers keeps refl))
+  distributor_made = (store, of_plan.state, (part_of_upload (job_of d.upload), note_of_distributor d, distributor_read_back t read fit store d sound numbers keeps refl))

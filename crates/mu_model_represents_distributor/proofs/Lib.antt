@@ -1,0 +1,13 @@
+pub mod DistributorOnce
+pub mod DistributorSound
+pub mod DistributorWritten
+pub mod DistributorKept
+pub mod DistributorMade
+pub mod Found
+pub mod NoteKinds
+pub mod Foreign
+pub mod TagOnce
+pub mod Shorts
+pub mod Puts
+pub mod DistributorTags
+pub mod NoDistributors

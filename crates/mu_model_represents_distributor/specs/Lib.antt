@@ -1,0 +1,9 @@
+pub mod DistributorNote
+pub mod RepresentsDistributor
+pub mod Numbers
+pub mod Written
+pub mod WorkedDistributor
+pub mod Short
+pub mod Blocks
+pub mod Boots
+pub mod Laws
