@@ -4,6 +4,7 @@ use Rattle.sha2.specs.Sha256.{sha256, digest_bytes, hash_after, compress, rounds
 use Rattle.mu_model_wire.specs.Reading.{word_at, octets_at, opcode_at, pattern_at}
 use Rattle.mu_model_distributor_rows.specs.Tables.{EachPhase, EachUpload}
 use Rattle.mu_model_distributor_rows.specs.Runs.{Distributions, Uploads}
+use Rattle.mu_model_distributor_rows.specs.Banks.{EachBank}
 
 pub each_phase : EachPhase
 unfolding word_at octets_at opcode_at pattern_at sha256 digest_bytes hash_after compress rounds schedule first_words
@@ -15,8 +16,12 @@ each_upload = record { uploading = refl; receiving = refl; whole = refl; broken 
 
 pub distributions : Distributions
 unfolding word_at octets_at opcode_at pattern_at sha256 digest_bytes hash_after compress rounds schedule first_words
-distributions = record { one_fails = refl; both_fail = refl; verify_only = refl; both_silent = refl; says_failed_later = refl; canceled = refl; suspended_in_between = refl; cut_in_transfer = refl; cut_in_applying = refl; cut_in_canceling = refl }
+distributions = record { one_fails = refl; both_fail = refl; verify_only = refl; both_silent = refl; says_failed_later = refl; canceled = refl; suspended_in_between = refl; cut_in_transfer = refl; cut_in_applying = refl; cut_in_canceling = refl; applying_already = refl }
 
 pub uploads : Uploads
 unfolding word_at octets_at opcode_at pattern_at sha256 digest_bytes hash_after compress rounds schedule first_words
-uploads = record { uploaded = refl; unfit = refl; broken_by_time = refl; broken_by_cut = refl; lagging = refl; canceled_transfer = refl; deleted = refl }
+uploads = record { uploaded = refl; unfit = refl; broken_by_time = refl; broken_by_cut = refl; lagging = refl; canceled_transfer = refl; deleted = refl; unstarted = refl; moment_of_another = refl; moment_of_unread = refl }
+
+pub each_bank : EachBank
+unfolding word_at octets_at opcode_at pattern_at sha256 digest_bytes hash_after compress rounds schedule first_words
+each_bank = record { one = refl; three = refl; next = refl; last = refl; emptied = refl; emptied_second = refl }

@@ -6,3 +6,4 @@ pub mod Tables
 pub mod RunsOfDistributions
 pub mod RunsOfUploads
 pub mod Runs
+pub mod Banks

@@ -1,7 +1,7 @@
 -- The runs, each evaluated.
 use Rattle.mu_model_distributor_rows.specs.Scenes.{Goes, ready, of_three}
-use Rattle.mu_model_distributor_rows.specs.RunsOfDistributions.{one_fails, both_fail, verify_only, both_silent, says_failed_later, canceled, suspended_in_between, cut_in_transfer, cut_in_applying, cut_in_canceling}
-use Rattle.mu_model_distributor_rows.specs.RunsOfUploads.{uploaded, unfit, broken_by_time, broken_by_cut, lagging, canceled_transfer, deleted}
+use Rattle.mu_model_distributor_rows.specs.RunsOfDistributions.{one_fails, both_fail, verify_only, both_silent, says_failed_later, canceled, suspended_in_between, cut_in_transfer, cut_in_applying, cut_in_canceling, applying_already}
+use Rattle.mu_model_distributor_rows.specs.RunsOfUploads.{uploaded, unfit, broken_by_time, broken_by_cut, lagging, canceled_transfer, deleted, unstarted, moment_of_another, moment_of_unread}
 
 pub record Distributions : Type 0 where
   pub one_fails : Goes ready one_fails
@@ -14,6 +14,7 @@ pub record Distributions : Type 0 where
   pub cut_in_transfer : Goes ready cut_in_transfer
   pub cut_in_applying : Goes ready cut_in_applying
   pub cut_in_canceling : Goes ready cut_in_canceling
+  pub applying_already : Goes ready applying_already
 
 pub record Uploads : Type 0 where
   pub uploaded : Goes ready uploaded
@@ -23,3 +24,6 @@ pub record Uploads : Type 0 where
   pub lagging : Goes ready lagging
   pub canceled_transfer : Goes ready canceled_transfer
   pub deleted : Goes of_three deleted
+  pub unstarted : Goes ready unstarted
+  pub moment_of_another : Goes ready moment_of_another
+  pub moment_of_unread : Goes ready moment_of_unread

@@ -262,3 +262,25 @@ cut_in_canceling =
     ∷ quiet boots (5 ∷ 6 ∷ 0 ∷ []) ((7 ∷ 0 ∷ 0 ∷ 0 ∷ []) ∷ (7 ∷ 0 ∷ 0 ∷ 0 ∷ []) ∷ [])
     ∷ sends (passes 0) ((2, update_cancel) ∷ (3, update_cancel) ∷ []) (5 ∷ 6 ∷ 0 ∷ []) ((7 ∷ 0 ∷ 0 ∷ 0 ∷ []) ∷ (7 ∷ 0 ∷ 0 ∷ 0 ∷ []) ∷ [])
     ∷ []
+
+-- the only receiver that is left applies the image already: that is verified too
+abbrev pub applying_already : List Turn
+applying_already =
+    asks (distribution_start 0 5 0 5 0 0xc0) (distribution_status 0 1) (4 ∷ 1 ∷ 0 ∷ []) ((10 ∷ 0 ∷ 0 ∷ 0 ∷ []) ∷ (10 ∷ 0 ∷ 0 ∷ 0 ∷ []) ∷ [])
+    ∷ sends (passes 0) ((2, metadata_check) ∷ (3, metadata_check) ∷ []) (4 ∷ 1 ∷ 0 ∷ []) ((10 ∷ 0 ∷ 0 ∷ 0 ∷ []) ∷ (10 ∷ 0 ∷ 0 ∷ 0 ∷ []) ∷ [])
+    ∷ quiet (comes 2 metadata_status) (4 ∷ 1 ∷ 0 ∷ []) ((10 ∷ 0 ∷ 0 ∷ 0 ∷ []) ∷ (10 ∷ 0 ∷ 0 ∷ 0 ∷ []) ∷ [])
+    ∷ quiet (comes 3 (metadata_refused 5)) (5 ∷ 1 ∷ 0 ∷ []) ((10 ∷ 0 ∷ 0 ∷ 0 ∷ []) ∷ (10 ∷ 5 ∷ 0 ∷ 0 ∷ []) ∷ [])
+    ∷ sends (passes 0) ((2, update_start 1) ∷ []) (5 ∷ 1 ∷ 0 ∷ []) ((10 ∷ 0 ∷ 0 ∷ 0 ∷ []) ∷ (10 ∷ 5 ∷ 0 ∷ 0 ∷ []) ∷ [])
+    ∷ quiet (comes 2 (update_status 0xc0 1)) (6 ∷ 1 ∷ 0 ∷ []) ((6 ∷ 0 ∷ 0 ∷ 0 ∷ []) ∷ (10 ∷ 5 ∷ 0 ∷ 0 ∷ []) ∷ [])
+    ∷ sends (passes 0) ((2, blob_information_get) ∷ []) (6 ∷ 1 ∷ 0 ∷ []) ((6 ∷ 0 ∷ 0 ∷ 0 ∷ []) ∷ (10 ∷ 5 ∷ 0 ∷ 0 ∷ []) ∷ [])
+    ∷ quiet (comes 2 limits) (6 ∷ 1 ∷ 0 ∷ []) ((6 ∷ 0 ∷ 0 ∷ 0 ∷ []) ∷ (10 ∷ 5 ∷ 0 ∷ 0 ∷ []) ∷ [])
+    ∷ sends (passes 0) ((2, transfer_of 1) ∷ []) (6 ∷ 1 ∷ 0 ∷ []) ((6 ∷ 0 ∷ 0 ∷ 0 ∷ []) ∷ (10 ∷ 5 ∷ 0 ∷ 0 ∷ []) ∷ [])
+    ∷ quiet (comes 2 (transfer_told 4 1 0)) (6 ∷ 1 ∷ 0 ∷ []) ((6 ∷ 0 ∷ 0 ∷ 100 ∷ []) ∷ (10 ∷ 5 ∷ 0 ∷ 0 ∷ []) ∷ [])
+    ∷ sends (passes 0) ((2, update_get) ∷ []) (6 ∷ 1 ∷ 0 ∷ []) ((6 ∷ 0 ∷ 0 ∷ 100 ∷ []) ∷ (10 ∷ 5 ∷ 0 ∷ 0 ∷ []) ∷ [])
+    ∷ quiet (comes 2 (update_status 0xc0 1)) (6 ∷ 1 ∷ 0 ∷ []) ((6 ∷ 0 ∷ 0 ∷ 100 ∷ []) ∷ (10 ∷ 5 ∷ 0 ∷ 0 ∷ []) ∷ [])
+    ∷ sends (passes 0) ((2, update_apply) ∷ []) (7 ∷ 3 ∷ 0 ∷ []) ((6 ∷ 0 ∷ 0 ∷ 100 ∷ []) ∷ (10 ∷ 5 ∷ 0 ∷ 0 ∷ []) ∷ [])
+    ∷ quiet (comes 2 (update_status 0xc0 1)) (7 ∷ 3 ∷ 0 ∷ []) ((6 ∷ 0 ∷ 0 ∷ 100 ∷ []) ∷ (10 ∷ 5 ∷ 0 ∷ 0 ∷ []) ∷ [])
+    ∷ sends (passes 0) ((2, information_get) ∷ []) (7 ∷ 3 ∷ 0 ∷ []) ((6 ∷ 0 ∷ 0 ∷ 100 ∷ []) ∷ (10 ∷ 5 ∷ 0 ∷ 0 ∷ []) ∷ [])
+    ∷ quiet (comes 2 shown_image) (8 ∷ 3 ∷ 0 ∷ []) ((8 ∷ 0 ∷ 0 ∷ 100 ∷ []) ∷ (10 ∷ 5 ∷ 0 ∷ 0 ∷ []) ∷ [])
+    ∷ quiet (passes 0) (9 ∷ 4 ∷ 0 ∷ []) ((8 ∷ 0 ∷ 0 ∷ 100 ∷ []) ∷ (10 ∷ 5 ∷ 0 ∷ 0 ∷ []) ∷ [])
+    ∷ []

@@ -1,6 +1,6 @@
 -- Uploads and stored images.
 use Rattle.std.specs.Prelude.{List, [], ◌∷◌}
-use Rattle.mu_model_distributor_rows.specs.Scenes.{receivers_delete_all, capabilities_get, distribution_start, upload_get, upload_start, upload_cancel, firmware_get, firmware_get_by_index, firmware_delete, firmware_delete_all, transfer_start, transfer_get, block_start, chunk, other_chunk, block_get, transfer_cancel, receivers_status, no_upload, upload_status, firmware_status, id_at, capabilities_status, Turn, quiet, asks, boots, passes, block_status, comes}
+use Rattle.mu_model_distributor_rows.specs.Scenes.{passes_by, update_get, receivers_delete_all, capabilities_get, distribution_start, upload_get, upload_start, upload_cancel, firmware_get, firmware_get_by_index, firmware_delete, firmware_delete_all, transfer_start, transfer_get, block_start, chunk, other_chunk, block_get, transfer_cancel, receivers_status, no_upload, upload_status, firmware_status, id_at, capabilities_status, Turn, quiet, asks, boots, passes, block_status, comes}
 
 -- an upload is verified and stored as the last image
 abbrev pub uploaded : List Turn
@@ -99,4 +99,31 @@ deleted =
     ∷ asks (firmware_delete 2) (firmware_status 4 2 0xffff (id_at 2)) (6 ∷ 0 ∷ 0 ∷ []) ((10 ∷ 0 ∷ 0 ∷ 0 ∷ []) ∷ (10 ∷ 0 ∷ 0 ∷ 0 ∷ []) ∷ [])
     ∷ asks firmware_delete_all (firmware_status 0 0 0xffff []) (7 ∷ 0 ∷ 0 ∷ []) ((10 ∷ 0 ∷ 0 ∷ 0 ∷ []) ∷ (10 ∷ 0 ∷ 0 ∷ 0 ∷ []) ∷ [])
     ∷ asks firmware_delete_all (firmware_status 0 0 0xffff []) (7 ∷ 0 ∷ 0 ∷ []) ((10 ∷ 0 ∷ 0 ∷ 0 ∷ []) ∷ (10 ∷ 0 ∷ 0 ∷ 0 ∷ []) ∷ [])
+    ∷ []
+
+-- an upload whose transfer wasn't started waits for ten seconds
+abbrev pub unstarted : List Turn
+unstarted =
+    asks (upload_start 3 5 7) (upload_status 0 1 0 3) (4 ∷ 0 ∷ 1 ∷ []) ((10 ∷ 0 ∷ 0 ∷ 0 ∷ []) ∷ (10 ∷ 0 ∷ 0 ∷ 0 ∷ []) ∷ [])
+    ∷ quiet (passes 0) (4 ∷ 0 ∷ 1 ∷ []) ((10 ∷ 0 ∷ 0 ∷ 0 ∷ []) ∷ (10 ∷ 0 ∷ 0 ∷ 0 ∷ []) ∷ [])
+    ∷ quiet (passes 9999) (4 ∷ 0 ∷ 1 ∷ []) ((10 ∷ 0 ∷ 0 ∷ 0 ∷ []) ∷ (10 ∷ 0 ∷ 0 ∷ 0 ∷ []) ∷ [])
+    ∷ asks upload_get (upload_status 0 1 0 3) (4 ∷ 0 ∷ 1 ∷ []) ((10 ∷ 0 ∷ 0 ∷ 0 ∷ []) ∷ (10 ∷ 0 ∷ 0 ∷ 0 ∷ []) ∷ [])
+    ∷ quiet (passes 10000) (5 ∷ 0 ∷ 2 ∷ []) ((10 ∷ 0 ∷ 0 ∷ 0 ∷ []) ∷ (10 ∷ 0 ∷ 0 ∷ 0 ∷ []) ∷ [])
+    ∷ []
+
+-- a packet to another gives its moment, and so does one that isn't handled
+abbrev pub moment_of_another : List Turn
+moment_of_another =
+    asks (upload_start 3 5 7) (upload_status 0 1 0 3) (4 ∷ 0 ∷ 1 ∷ []) ((10 ∷ 0 ∷ 0 ∷ 0 ∷ []) ∷ (10 ∷ 0 ∷ 0 ∷ 0 ∷ []) ∷ [])
+    ∷ quiet (passes_by 2 upload_get 9999) (4 ∷ 0 ∷ 1 ∷ []) ((10 ∷ 0 ∷ 0 ∷ 0 ∷ []) ∷ (10 ∷ 0 ∷ 0 ∷ 0 ∷ []) ∷ [])
+    ∷ quiet (passes 0) (4 ∷ 0 ∷ 1 ∷ []) ((10 ∷ 0 ∷ 0 ∷ 0 ∷ []) ∷ (10 ∷ 0 ∷ 0 ∷ 0 ∷ []) ∷ [])
+    ∷ quiet (passes_by 2 upload_get 10000) (4 ∷ 0 ∷ 1 ∷ []) ((10 ∷ 0 ∷ 0 ∷ 0 ∷ []) ∷ (10 ∷ 0 ∷ 0 ∷ 0 ∷ []) ∷ [])
+    ∷ quiet (passes 0) (5 ∷ 0 ∷ 2 ∷ []) ((10 ∷ 0 ∷ 0 ∷ 0 ∷ []) ∷ (10 ∷ 0 ∷ 0 ∷ 0 ∷ []) ∷ [])
+    ∷ []
+
+abbrev pub moment_of_unread : List Turn
+moment_of_unread =
+    asks (upload_start 3 5 7) (upload_status 0 1 0 3) (4 ∷ 0 ∷ 1 ∷ []) ((10 ∷ 0 ∷ 0 ∷ 0 ∷ []) ∷ (10 ∷ 0 ∷ 0 ∷ 0 ∷ []) ∷ [])
+    ∷ quiet (passes_by 1 update_get 10000) (4 ∷ 0 ∷ 1 ∷ []) ((10 ∷ 0 ∷ 0 ∷ 0 ∷ []) ∷ (10 ∷ 0 ∷ 0 ∷ 0 ∷ []) ∷ [])
+    ∷ quiet (passes 0) (5 ∷ 0 ∷ 2 ∷ []) ((10 ∷ 0 ∷ 0 ∷ 0 ∷ []) ∷ (10 ∷ 0 ∷ 0 ∷ 0 ∷ []) ∷ [])
     ∷ []

@@ -80,6 +80,10 @@ Goes s turns = turns_of s turns ≡ turns
 abbrev pub passes : (now : ℕ) → Happening
 passes now = Done TimeComes now
 
+-- a stranger's packet to an address, at a moment
+abbrev pub passes_by : (to : ℕ) → List ℕ → (now : ℕ) → Happening
+passes_by to payload now = Done (PacketComes (record { from = 9; to = to; payload = payload })) now
+
 abbrev pub boots : Happening
 boots = CutPower
 

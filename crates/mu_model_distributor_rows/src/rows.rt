@@ -1,5 +1,6 @@
 //! Worked rows of a distributor: functions that do nothing, whose contracts are evaluated.
 
+ghost use Rattle.mu_model_distributor_rows.specs.Banks.{EachBank};
 ghost use Rattle.mu_model_distributor_rows.specs.Runs.{Distributions, Uploads};
 ghost use Rattle.mu_model_distributor_rows.specs.Tables.{EachPhase, EachUpload};
 
@@ -14,4 +15,9 @@ pub fn each_request()
 pub fn runs()
     ensures distributions { Distributions }
     ensures uploads { Uploads }
+{}
+
+/// The banks that images and uploads take.
+pub fn banks()
+    ensures { EachBank }
 {}
