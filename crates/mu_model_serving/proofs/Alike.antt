@@ -1,17 +1,17 @@
 -- A node serves as by its blocks alone.
-use Rattle.std.proofs.Common.{◌≡◌, ℕ, Bool, true, false, List, [], ◌∷◌, refl, sym, ap, subst, ◌∙◌, cond, Option, Some, None, is_some}
+use Rattle.std.proofs.Common.{◌≡◌, ℕ, true, false, List, refl, sym, ap, subst, cond, Option, Some, None, is_some}
 use Rattle.mu_model_image.specs.Meta.{Image}
 use Rattle.mu_model_node.specs.Slots.{is_full}
 use Rattle.mu_model_node.specs.declared.Parameters.{Parameters}
-use Rattle.mu_model_node.specs.BlobMessages.{BlobRequest, BlobInformationGet, TransferGet, TransferStart, TransferCancel, BlockStart, BlockGet, ChunkTransfer, TransferStatus}
+use Rattle.mu_model_node.specs.BlobMessages.{BlobRequest, BlobInformationGet, TransferGet, TransferStart, TransferCancel, BlockStart, BlockGet, ChunkTransfer}
 use Rattle.mu_model_node.specs.declared.Link.{Link}
 use Rattle.mu_model_node.specs.declared.Link.TheVariants.{Cut, Ready, Running}
-use Rattle.mu_model_node.specs.BlobServer.{Transfer, Session, Serving, NoJob, Lacking, Whole, serving_by, serving_of, Server, serving_phase, Same}
+use Rattle.mu_model_node.specs.BlobServer.{Transfer, Session, Serving, NoJob, Lacking, Whole, serving_by, serving_of, Server, serving_phase}
 use Rattle.mu_model_node.specs.BlobTable.{on_blob, on_server_time}
 use Rattle.mu_model_node.specs.declared.Stored.{Stored}
 use Rattle.mu_model_node.specs.declared.Stored.TheVariants.{Filling, Verified, Refused, Applied}
-use Rattle.mu_model_node.specs.NodeState.{Job, NodeState, UpdatePhase, Failed, Verifying, link_phase, filling_phase, stored_phase, job_phase, update_phase, transfer_of, serving_in, server_of}
-use Rattle.mu_model_node.specs.Sound.{IsWhole, StoredIs, HasJob, IsNodeState}
+use Rattle.mu_model_node.specs.NodeState.{Job, Failed, Verifying, link_phase, filling_phase, stored_phase, job_phase, transfer_of, serving_in}
+use Rattle.mu_model_node.specs.Sound.{StoredIs, HasJob}
 use Rattle.mu_model_serving.specs.Laws.{serving_alone, CutIfRefused, HasItsLink, IsServed, ServesAlike, WaitsAlike, PhasesAreAlike, CancelsInFailed}
 
 -- ---- what is served

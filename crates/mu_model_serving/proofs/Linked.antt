@@ -1,6 +1,5 @@
 -- Of a job that was refused the link is Cut.
-use Rattle.std.proofs.Common.{◌≡◌, ℕ, Bool, true, false, List, [], ◌∷◌, refl, sym, ap, subst, ◌∙◌, cond, Option, Some, None, Result, Ok, Err}
-use Rattle.std.specs.Prelude.{◌==◌}
+use Rattle.std.proofs.Common.{◌≡◌, ℕ, Bool, true, false, refl, sym, ap, subst, ◌∙◌, cond, Option, Some, None, Result, Ok, Err}
 use Rattle.mu_model_image.specs.declared.Meta.{Meta}
 use Rattle.mu_model_image.specs.Meta.{is_fit}
 use Rattle.mu_model_node.specs.Slots.{is_full, joined}
@@ -15,7 +14,7 @@ use Rattle.mu_model_node.specs.BlobServer.{Session, NoJob, Change, Same, Begins,
 use Rattle.mu_model_node.specs.BlobTable.{Served, silently, on_blob, on_server_time}
 use Rattle.mu_model_node.specs.declared.Stored.{Stored}
 use Rattle.mu_model_node.specs.declared.Stored.TheVariants.{Filling, Verified, Refused, Applied}
-use Rattle.mu_model_node.specs.NodeState.{Job, NodeDurable, NodeState, is_addressee, UpdatePhase, Idle, TransferError, TransferActive, Verifying, Succeeded, Failed, Applying, link_phase, filling_phase, stored_phase, job_phase, update_phase, serving_in, server_of}
+use Rattle.mu_model_node.specs.NodeState.{Job, NodeState, is_addressee, UpdatePhase, Idle, TransferError, TransferActive, Verifying, Succeeded, Failed, Applying, link_phase, filling_phase, stored_phase, job_phase, update_phase, serving_in, server_of}
 use Rattle.mu_model_node.specs.NodeOutcome.{job_after, served, with_session}
 use Rattle.mu_model_node.specs.UpdateTable.{check, takes_checked, takes, same_start, answer, on_update_start, on_update_cancel, on_update_apply, on_update}
 use Rattle.mu_model_node.specs.declared.FlashWork.TheVariants.{Untouched}

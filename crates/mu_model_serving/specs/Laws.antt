@@ -1,5 +1,5 @@
 -- The BLOB server of a node, and one that knows nothing of update phases: by the job's blocks alone blocks are missing, or all are held.
-use Rattle.std.specs.Prelude.{ℕ, ◌≡◌, List, [], ◌∷◌, Option, Some, None}
+use Rattle.std.specs.Prelude.{ℕ, ◌≡◌, [], ◌∷◌, Option, Some, None}
 use Rattle.mu_model_node.specs.BlobMessages.{BlobRequest, TransferCancel, TransferStatus}
 use Rattle.mu_model_node.specs.declared.Link.{Link}
 use Rattle.mu_model_node.specs.declared.Link.TheVariants.{Cut}
