@@ -1,0 +1,3 @@
+mod Places
+mod Present
+mod Begun
