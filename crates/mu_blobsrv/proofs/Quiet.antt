@@ -22,7 +22,7 @@ use Rattle.mu_blobsrv.specs.declared.server.BlobServer.{BlobServer}
 use Rattle.mu_blobsrv.specs.Replies.{packets_of}
 use Rattle.mu_blobsrv.specs.Views.{store_of}
 use Rattle.mu_blobsrv.specs.Rows.{IsRow, IsServed, quietly}
-use Rattle.mu_blobsrv.specs.Runs.{change_steps, FaultBy}
+use Rattle.mu_blobsrv.specs.Runs.{change_steps, FaultBy, Stays}
 
 same_after : (v : Serving) → serving_after Same v ≡ v
 same_after NoJob = refl
@@ -59,6 +59,9 @@ pub same_runs : {F T : Type 0} {g : _} (seen : F → Seen) (old new : JobStore F
 same_runs seen old new s change r e same idle holds =
     subst (λ (x : Change). PlaceGoes seen s (change_steps old s x) (place_in old) (place_in new) (Ok r)) (sym same)
     (subst (λ (x : JobStore _ _). PlaceGoes seen s [] (place_in old) (place_in x) (Ok r)) (sym e) (idle, holds))
+
+pub quiet_stays : {F : Type 0} {g : _} (old new : JobStore F g) → new ≡ old → Stays old new
+quiet_stays old new e = subst (λ (x : JobStore _ _). Stays old x) (sym e) (record { note = refl; expects = refl })
 
 -- the replies as packets
 pub is_served : {F : Type 0} {g : _} (from : ℕ) (old : JobStore F g) (held : Slots) (o : Served) (new : BlobServer F g) (replies : List (ℕ × BlobReply)) (packets : List Packet) → IsRow old held o new replies

@@ -12,7 +12,7 @@ use Rattle.mu_place.specs.declared.place.Place.{Place}
 use Rattle.mu_place.specs.Place.{place_fresh}
 use Rattle.mu_place.specs.Calls.{WornAtLast}
 use Rattle.mu_kept.specs.declared.store.JobStore.{JobStore}
-use Rattle.mu_kept.specs.Views.{place_in, job_in, bank_in, with_parameters}
+use Rattle.mu_kept.specs.Views.{place_in, job_in, bank_in, with_parameters, expect_of}
 use Rattle.mu_kept.specs.Calls.{note_in}
 use Rattle.mu_kept.specs.Tags.{tag_with}
 use Rattle.mu_blobsrv.specs.declared.server.BlobServer.{BlobServer}
@@ -47,6 +47,11 @@ FaultBy Same old result = IsOk result
 FaultBy (Begins p) old result = WornAtLast old result
 FaultBy Drops old result = WornAtLast old result
 FaultBy (Puts i octets) old result = IfErr result (λ why. why ≡ Flash)
+
+-- What a message leaves as it is: the note, and what is expected for the job.
+pub record Stays {F : Type 0} {g : _} (old new : JobStore F g) : Type 0 where
+  pub note : note_in new ≡ note_in old
+  pub expects : option_map expect_of (job_in new) ≡ option_map expect_of (job_in old)
 
 -- where a fault was kept before, it is answered and nothing changes
 abbrev pub KeepsServer : {F T : Type 0} {g : _} → BlobServer F g → BlobServer F g → Result T StoreFault → Type 0

@@ -3,7 +3,7 @@ ghost use Rattle.std.specs.Prelude.{◌≡◌, ◌≤◌, ℕ, length, IfOk, IfE
 ghost use Rattle.mu_model_record.specs.Store.{StoreState};
 ghost use Rattle.mu_model_node.specs.Slots.{Slots, joined};
 ghost use Rattle.mu_model_node.specs.BlobMessages.{ChunkTransfer};
-ghost use Rattle.mu_model_node.specs.BlobServer.{Puts};
+ghost use Rattle.mu_model_node.specs.BlobServer.{Same, Puts};
 ghost use Rattle.mu_model_node.specs.BlobTable.{on_blob, completes};
 ghost use Rattle.mu_block.specs.Coming.{Coming, is_whole};
 ghost use Rattle.mu_place.specs.Place.{PlaceHolds};
@@ -12,7 +12,7 @@ ghost use Rattle.mu_kept.specs.Shows.{Shows};
 ghost use Rattle.mu_blobsrv.specs.Views.{store_of, place_of, fault_of, session_of, coming_of, server_of};
 ghost use Rattle.mu_blobsrv.specs.Replies.{replies_of};
 ghost use Rattle.mu_blobsrv.specs.Rows.{IsRow};
-ghost use Rattle.mu_blobsrv.specs.Runs.{change_steps, FaultBy, PutsOneBlock};
+ghost use Rattle.mu_blobsrv.specs.Runs.{change_steps, FaultBy, PutsOneBlock, Stays};
 
 use crate::answering::completed;
 use crate::server::BlobServer;
@@ -30,6 +30,7 @@ impl<F: Flash> BlobServer<F> {
         ensures answers { Answers (place_of self.new) result }
         ensures row { (c : Coming) (held : Slots) → coming_of self.old ≡ Some c → Shows (store_of self.old) held
             → IfOk result (λ reply. IsRow (store_of self.old) held (completes (session_of self.old) parameters c.block c.block.chunks) self.new (replies_of reply)) }
+        ensures stays { IfOk result (λ _. Stays (store_of self.old) (store_of self.new)) }
         ensures why { IfErr result (λ why. why ≡ StoreFault.Flash) }
         ensures one { (c : Coming) → coming_of self.old ≡ Some c → length (joined c.block.chunks) ≤ 16384 }
         ensures cause { HasRisen F.seen (place_of self.old) (place_of self.new) result }
@@ -60,6 +61,8 @@ impl<F: Flash> BlobServer<F> {
         ensures row { (held : Slots) (from : ℕ) → Shows (store_of self.old) held
             → IfOk result (λ reply. IsRow (store_of self.old) held (on_blob (server_of self.old held now) from (ChunkTransfer chunk octets.now)) self.new (replies_of reply)) }
         ensures faults { (held : Slots) (from : ℕ) → Shows (store_of self.old) held → FaultBy (on_blob (server_of self.old held now) from (ChunkTransfer chunk octets.now)).change (place_of self.old) result }
+        ensures stays { IfOk result (λ _. Stays (store_of self.old) (store_of self.new)) }
+        ensures still { (held : Slots) (from : ℕ) → (on_blob (server_of self.old held now) from (ChunkTransfer chunk octets.now)).change ≡ Same → store_of self.new ≡ store_of self.old }
         ensures one { (held : Slots) (from : ℕ) → PutsOneBlock (on_blob (server_of self.old held now) from (ChunkTransfer chunk octets.now)).change }
         ensures untouched { WornUntouched (place_of self.old) (place_of self.new) result }
         ensures cause { HasRisen F.seen (place_of self.old) (place_of self.new) result }

@@ -8,6 +8,7 @@ ghost use Rattle.mu_model_record.specs.Store.{StoreState};
 ghost use Rattle.mu_model_node.specs.Slots.{Slots};
 ghost use Rattle.mu_model_node.specs.Sound.{BlobRequestFits};
 ghost use Rattle.mu_model_node.specs.BlobMessages.{blob_request_of as request_in, BlobInformationGet, TransferGet, BlockStart, BlockGet};
+ghost use Rattle.mu_model_node.specs.BlobServer.{Same};
 ghost use Rattle.mu_model_node.specs.BlobTable.{on_blob, on_server_time};
 ghost use Rattle.mu_place.specs.Place.{PlaceHolds};
 ghost use Rattle.mu_place.specs.Calls.{Answers, WornUntouched, HasRisen, PlaceGoes};
@@ -16,7 +17,7 @@ ghost use Rattle.mu_blob_answers.specs.Messages.{blob_request_of};
 ghost use Rattle.mu_blobsrv.specs.Views.{store_of, place_of, fault_of, session_of, server_of};
 ghost use Rattle.mu_blobsrv.specs.Replies.{replies_of, packets_of};
 ghost use Rattle.mu_blobsrv.specs.Rows.{served_by, IsRow, IsServed, quietly};
-ghost use Rattle.mu_blobsrv.specs.Runs.{change_steps, pages_put, FaultBy, PutsOneBlock, KeepsServer};
+ghost use Rattle.mu_blobsrv.specs.Runs.{change_steps, pages_put, FaultBy, PutsOneBlock, Stays, KeepsServer};
 
 use crate::answering::{asked, block_got, block_started, transfer_told};
 use crate::sending::reply;
@@ -96,6 +97,8 @@ impl<F: Flash> BlobServer<F> {
         ensures answers { Answers (place_of self.new) result }
         ensures row { (held : Slots) → Shows (store_of self.old) held → IfOk result (λ reply. IsRow (store_of self.old) held (on_blob (server_of self.old held now) from (blob_request_of request.entry)) self.new (replies_of reply)) }
         ensures faults { (held : Slots) → Shows (store_of self.old) held → FaultBy (on_blob (server_of self.old held now) from (blob_request_of request.entry)).change (place_of self.old) result }
+        ensures stays { IfOk result (λ _. Stays (store_of self.old) (store_of self.new)) }
+        ensures still { (held : Slots) → Shows (store_of self.old) held → (on_blob (server_of self.old held now) from (blob_request_of request.entry)).change ≡ Same → store_of self.new ≡ store_of self.old }
         ensures one { (held : Slots) → Shows (store_of self.old) held → PutsOneBlock (on_blob (server_of self.old held now) from (blob_request_of request.entry)).change }
         ensures untouched { WornUntouched (place_of self.old) (place_of self.new) result }
         ensures cause { HasRisen F.seen (place_of self.old) (place_of self.new) result }
@@ -130,6 +133,8 @@ impl<F: Flash> BlobServer<F> {
         ensures answers { Answers (place_of self.new) result }
         ensures row { (held : Slots) → Shows (store_of self.old) held → IfOk result (λ reply. IsRow (store_of self.old) held (served_by (server_of self.old held now) from (request_in (view msg.now))) self.new (replies_of reply)) }
         ensures faults { (held : Slots) → Shows (store_of self.old) held → FaultBy (served_by (server_of self.old held now) from (request_in (view msg.now))).change (place_of self.old) result }
+        ensures stays { IfOk result (λ _. Stays (store_of self.old) (store_of self.new)) }
+        ensures still { (held : Slots) → Shows (store_of self.old) held → (served_by (server_of self.old held now) from (request_in (view msg.now))).change ≡ Same → store_of self.new ≡ store_of self.old }
         ensures one { (held : Slots) → Shows (store_of self.old) held → PutsOneBlock (served_by (server_of self.old held now) from (request_in (view msg.now))).change }
         ensures untouched { WornUntouched (place_of self.old) (place_of self.new) result }
         ensures cause { HasRisen F.seen (place_of self.old) (place_of self.new) result }
@@ -163,6 +168,8 @@ impl<F: Flash> BlobServer<F> {
         ensures row { (held : Slots) → Shows (store_of self.old) held
             → IfOk result (λ _. IsServed me (store_of self.old) held (served_by (server_of self.old held now) from (request_in (view msg.now))) self.new (map packet_of out.new.items)) }
         ensures faults { fault_of self.old ≡ None → (held : Slots) → Shows (store_of self.old) held → FaultBy (served_by (server_of self.old held now) from (request_in (view msg.now))).change (place_of self.old) result }
+        ensures stays { IfOk result (λ _. Stays (store_of self.old) (store_of self.new)) }
+        ensures still { fault_of self.old ≡ None → (held : Slots) → Shows (store_of self.old) held → (served_by (server_of self.old held now) from (request_in (view msg.now))).change ≡ Same → store_of self.new ≡ store_of self.old }
         ensures work { fault_of self.old ≡ None → (s : StoreState) (held : Slots) → Shows (store_of self.old) held
             → length (change_steps (store_of self.old) s (served_by (server_of self.old held now) from (request_in (view msg.now))).change) ≤ pages_put (served_by (server_of self.old held now) from (request_in (view msg.now))).change + 5 }
         ensures untouched { WornUntouched (place_of self.old) (place_of self.new) result }

@@ -7,7 +7,7 @@ ghost use Rattle.mu_model_node.specs.Slots.{Slots};
 ghost use Rattle.mu_model_node.specs.Sound.{AreInRange};
 ghost use Rattle.mu_model_node.specs.declared.Parameters.{Parameters as AnyParameters};
 ghost use Rattle.mu_model_node.specs.BlobMessages.{TransferStart, TransferCancel};
-ghost use Rattle.mu_model_node.specs.BlobServer.{Begins, Drops, unlinked};
+ghost use Rattle.mu_model_node.specs.BlobServer.{Same, Begins, Drops, unlinked};
 ghost use Rattle.mu_model_node.specs.BlobTable.{on_blob};
 ghost use Rattle.mu_blob_rows.specs.Rows.{ChangeFits, told_by};
 ghost use Rattle.mu_blob_rows.specs.Sessions.{link_by};
@@ -19,7 +19,7 @@ ghost use Rattle.mu_kept.specs.Shows.{Shows};
 ghost use Rattle.mu_blobsrv.specs.Views.{store_of, place_of, fault_of, session_of, server_of};
 ghost use Rattle.mu_blobsrv.specs.Replies.{replies_of};
 ghost use Rattle.mu_blobsrv.specs.Rows.{IsRow, quietly};
-ghost use Rattle.mu_blobsrv.specs.Runs.{change_steps, FaultBy, PutsOneBlock};
+ghost use Rattle.mu_blobsrv.specs.Runs.{change_steps, FaultBy, PutsOneBlock, Stays};
 
 use crate::answering::link_told;
 use crate::server::BlobServer;
@@ -60,6 +60,7 @@ impl<F: Flash> BlobServer<F> {
         requires fits { ChangeFits (serving_in (store_of self.old)) (capacity_of (place_record (place_of self.old))) parameters Begin }
         ensures answers { Answers (place_of self.new) result }
         ensures row { (held : Slots) → Shows (store_of self.old) held → IfOk result (λ reply. IsRow (store_of self.old) held (told_by (server_of self.old held now) from parameters told) self.new (replies_of reply)) }
+        ensures stays { IfOk result (λ _. Stays (store_of self.old) (store_of self.new)) }
         ensures worn { WornAtLast (place_of self.old) result }
         ensures untouched { WornUntouched (place_of self.old) (place_of self.new) result }
         ensures cause { HasRisen F.seen (place_of self.old) (place_of self.new) result }
@@ -87,6 +88,7 @@ impl<F: Flash> BlobServer<F> {
         requires fits { (p : AnyParameters) → ChangeFits (serving_in (store_of self.old)) (capacity_of (place_record (place_of self.old))) p Drop }
         ensures answers { Answers (place_of self.new) result }
         ensures row { (held : Slots) (p : AnyParameters) → Shows (store_of self.old) held → IfOk result (λ reply. IsRow (store_of self.old) held (told_by (server_of self.old held now) from p told) self.new (replies_of reply)) }
+        ensures stays { IfOk result (λ _. Stays (store_of self.old) (store_of self.new)) }
         ensures worn { WornAtLast (place_of self.old) result }
         ensures untouched { WornUntouched (place_of self.old) (place_of self.new) result }
         ensures cause { HasRisen F.seen (place_of self.old) (place_of self.new) result }
@@ -113,6 +115,8 @@ impl<F: Flash> BlobServer<F> {
         ensures answers { Answers (place_of self.new) result }
         ensures row { (held : Slots) → Shows (store_of self.old) held → IfOk result (λ reply. IsRow (store_of self.old) held (on_blob (server_of self.old held now) from (TransferStart id parameters)) self.new (replies_of reply)) }
         ensures faults { (held : Slots) → Shows (store_of self.old) held → FaultBy (on_blob (server_of self.old held now) from (TransferStart id parameters)).change (place_of self.old) result }
+        ensures stays { IfOk result (λ _. Stays (store_of self.old) (store_of self.new)) }
+        ensures still { (held : Slots) → (on_blob (server_of self.old held now) from (TransferStart id parameters)).change ≡ Same → store_of self.new ≡ store_of self.old }
         ensures one { (held : Slots) → PutsOneBlock (on_blob (server_of self.old held now) from (TransferStart id parameters)).change }
         ensures untouched { WornUntouched (place_of self.old) (place_of self.new) result }
         ensures cause { HasRisen F.seen (place_of self.old) (place_of self.new) result }
@@ -142,6 +146,8 @@ impl<F: Flash> BlobServer<F> {
         ensures answers { Answers (place_of self.new) result }
         ensures row { (held : Slots) → Shows (store_of self.old) held → IfOk result (λ reply. IsRow (store_of self.old) held (on_blob (server_of self.old held now) from (TransferCancel id)) self.new (replies_of reply)) }
         ensures faults { (held : Slots) → Shows (store_of self.old) held → FaultBy (on_blob (server_of self.old held now) from (TransferCancel id)).change (place_of self.old) result }
+        ensures stays { IfOk result (λ _. Stays (store_of self.old) (store_of self.new)) }
+        ensures still { (held : Slots) → (on_blob (server_of self.old held now) from (TransferCancel id)).change ≡ Same → store_of self.new ≡ store_of self.old }
         ensures one { (held : Slots) → PutsOneBlock (on_blob (server_of self.old held now) from (TransferCancel id)).change }
         ensures untouched { WornUntouched (place_of self.old) (place_of self.new) result }
         ensures cause { HasRisen F.seen (place_of self.old) (place_of self.new) result }

@@ -1,6 +1,7 @@
-use Rattle.std.proofs.Common.{ℕ, Option, None, [], refl, subst, ap}
+use Rattle.std.proofs.Common.{◌≡◌, ℕ, Option, None, [], refl, subst, ap}
 use Rattle.std.specs.Prelude.{IfOk}
 use Rattle.mu_model_node.specs.BlobMessages.{ChunkTransfer, BlobReply}
+use Rattle.mu_model_node.specs.BlobServer.{Same}
 use Rattle.mu_model_node.specs.BlobTable.{Served, on_blob}
 use Rattle.mu_blob_session.specs.declared.session.Kept.{Kept}
 use Rattle.mu_blob_session.specs.Sessions.{session_in, coming_in, server_in}
@@ -59,3 +60,9 @@ returns-in-Whole-clause-one g c = λ held from.
     let came = subst (λ (k : Kept). CameAs (on_blob (server_in c.args.self.now.session k held c.args.now) from (ChunkTransfer c.args.chunk c.args.octets.now)) (session_in c.chunk.new.self) (coming_in c.chunk.new.self) c.chunk.result) c.kept-kept.ensures.looks (c.chunk.ensures.row held from) in
     came_row (λ (o : Served). PutsOneBlock o.change)
     (on_blob (server_of c.args.self.now held c.args.now) from (ChunkTransfer c.args.chunk c.args.octets.now)) (session_in c.chunk.new.self) c.in-Whole.parameters (coming_in c.chunk.new.self) (rw c.in-Whole.is at came) (λ d is. c.put.ensures.one d is)
+
+pub returns-in-Whole-clause-still : goal.returns-in-Whole-clause-still
+returns-in-Whole-clause-still g c = λ held from.
+    let came = subst (λ (k : Kept). CameAs (on_blob (server_in c.args.self.now.session k held c.args.now) from (ChunkTransfer c.args.chunk c.args.octets.now)) (session_in c.chunk.new.self) (coming_in c.chunk.new.self) c.chunk.result) c.kept-kept.ensures.looks (c.chunk.ensures.row held from) in
+    came_row (λ (o : Served). o.change ≡ Same → store_of c.put.new.self ≡ store_of c.args.self.now)
+    (on_blob (server_of c.args.self.now held c.args.now) from (ChunkTransfer c.args.chunk c.args.octets.now)) (session_in c.chunk.new.self) c.in-Whole.parameters (coming_in c.chunk.new.self) (rw c.in-Whole.is at came) (λ d is e. absurd (cc e))

@@ -88,3 +88,6 @@ returns-in-BlockGet-clause-one g c = λ held shows. rw c.in-BlockGet.is (quiet_p
 
 pub returns-in-ChunkTransfer-clause-one : goal.returns-in-ChunkTransfer-clause-one
 returns-in-ChunkTransfer-clause-one g c = λ held shows. rw c.in-ChunkTransfer.is (c.chunk.ensures.one held c.args.from)
+
+pub returns-in-ChunkTransfer-clause-still : goal.returns-in-ChunkTransfer-clause-still
+returns-in-ChunkTransfer-clause-still g c = λ held shows. rw c.in-ChunkTransfer.is (c.chunk.ensures.still held c.args.from)

@@ -1,7 +1,7 @@
 use Rattle.std.proofs.Common.{◌≡◌, ◌∙◌, [], sym, ap, subst}
 use Rattle.std.specs.Prelude.{IfOk}
 use Rattle.mu_model_node.specs.BlobMessages.{TransferCancel}
-use Rattle.mu_model_node.specs.BlobServer.{Server}
+use Rattle.mu_model_node.specs.BlobServer.{Server, Same, Drops}
 use Rattle.mu_model_node.specs.BlobTable.{Served, on_blob}
 use Rattle.mu_block.specs.Coming.{chunks_of}
 use Rattle.mu_blob_rows.specs.Looks.{server_with as looked_server}
@@ -86,3 +86,9 @@ returns-in-Drop-clause-one g c = λ held.
     let e = subst (λ (k : Kept). looked_server c.look.result held (chunks_of (coming_in c.args.self.now.session)) ≡ server_in c.args.self.now.session k held c.args.now) c.kept.ensures.looks (c.look.ensures.server held) in
     let told = subst (λ (x : Server). on_blob x c.args.from (TransferCancel c.args.id) ≡ told_by x c.args.from (record { mode = 1; size = 1; log = 12; mtu = 20 }) c.transfer_cancel-told.result) e (c.transfer_cancel-told.ensures.told held (chunks_of (coming_in c.args.self.now.session)) c.args.from (record { mode = 1; size = 1; log = 12; mtu = 20 })) in
     told_puts (on_blob (server_of c.args.self.now held c.args.now) c.args.from (TransferCancel c.args.id)) (record { mode = 1; size = 1; log = 12; mtu = 20 }) c.transfer_cancel-told.result.change (ap (λ (o : Served). o.change) told)
+
+pub returns-in-Drop-clause-still : goal.returns-in-Drop-clause-still
+returns-in-Drop-clause-still g c = λ held same.
+    let e = subst (λ (k : Kept). looked_server c.look.result held (chunks_of (coming_in c.args.self.now.session)) ≡ server_in c.args.self.now.session k held c.args.now) c.kept.ensures.looks (c.look.ensures.server held) in
+    let told = subst (λ (x : Server). on_blob x c.args.from (TransferCancel c.args.id) ≡ told_by x c.args.from (record { mode = 1; size = 1; log = 12; mtu = 20 }) c.transfer_cancel-told.result) e (c.transfer_cancel-told.ensures.told held (chunks_of (coming_in c.args.self.now.session)) c.args.from (record { mode = 1; size = 1; log = 12; mtu = 20 })) in
+    let change : Drops ≡ Same = sym (ap (λ (o : Served). o.change) told ∙ ap (change_by (record { mode = 1; size = 1; log = 12; mtu = 20 })) c.in-Drop.is) ∙ same in absurd (cc change)
