@@ -8,7 +8,7 @@ ghost use Rattle.mu_model_jobs.specs.Parts.{NewPartKeepsTheNote, PartIsRead, Rul
 use mu_model_record::laws::changes;
 use mu_model_represents::laws::{blob_parts, blocks_of_jobs};
 
-/// A bank that is changed, and the others.
+/// Banks that are changed or released, and the others.
 pub fn banks_change()
     ensures { BanksChange }
 {}

@@ -1,2 +1,4 @@
 pub mod DistributorIn
 pub mod Steps
+pub mod Kept
+pub mod Differs

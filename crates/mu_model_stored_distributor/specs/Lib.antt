@@ -1,2 +1,3 @@
 pub mod DistributorIn
 pub mod Steps
+pub mod Kept

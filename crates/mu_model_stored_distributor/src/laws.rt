@@ -2,8 +2,10 @@
 
 ghost use Rattle.mu_model_stored_distributor.specs.DistributorIn.{DistributorNoteIsRead, DistributorIsRead};
 ghost use Rattle.mu_model_stored_distributor.specs.Steps.{DistributorFreshIsTheSame, DistributorRecordSteps, DistributorBeginSteps, DistributorBlockSteps, WorkIsOfThePassed};
+ghost use Rattle.mu_model_stored_distributor.specs.Kept.{DistributorIsKept, UploadStays, NoUploadIsLeft, FirstUploadComes, UploadBegins, UploadGoes, UploadComes, UploadIsStored, UploadTakesABlock, ImageIsStocked, ImagesAreReleased, ChangesShowInTheTag};
 
-use mu_model_jobs::laws::parts;
+use mu_model_jobs::laws::{banks_change, parts};
+use mu_model_represents::laws::{blocks_of_jobs, images_of_banks};
 use mu_model_represents_distributor::laws::distributor_records_are_short;
 
 /// The function of a store's state is the distributor that it represents.
@@ -24,4 +26,29 @@ pub fn distributor_steps()
     ensures passed { WorkIsOfThePassed }
 {
     distributor_records_are_short();
+}
+
+/// What a distributor keeps beside the tag, before and after each call.
+pub fn distributor_is_kept()
+    ensures kept { DistributorIsKept }
+    ensures stays { UploadStays }
+    ensures none_left { NoUploadIsLeft }
+    ensures first { FirstUploadComes }
+    ensures begins { UploadBegins }
+    ensures goes { UploadGoes }
+    ensures comes { UploadComes }
+    ensures is_stored { UploadIsStored }
+    ensures block { UploadTakesABlock }
+    ensures stocked { ImageIsStocked }
+    ensures are_released { ImagesAreReleased }
+{
+    banks_change();
+    blocks_of_jobs();
+}
+
+/// Over one store, what a distributor keeps is another exactly where its note or its job is: a commit is due there.
+pub fn changes_show()
+    ensures { ChangesShowInTheTag }
+{
+    images_of_banks();
 }
