@@ -12,7 +12,7 @@ each_answer = record { in_check = refl; in_start = refl; in_information = refl; 
 
 pub ranks : Ranks
 unfolding word_at octets_at opcode_at pattern_at
-ranks = record { by_rank = refl; with_status = refl; another_id = refl; no_id = refl; image_shown = refl; nothing_shown = refl; transfer = refl; metadata = refl }
+ranks = record { by_rank = refl; with_status = refl; another_id = refl; no_id = refl; image_shown = refl; nothing_shown = refl; transfer = refl; metadata = refl; canceled = refl }
 
 pub rounds_and_chunks : RoundsAndChunks
 unfolding word_at octets_at opcode_at pattern_at

@@ -4,7 +4,7 @@ use Rattle.std.specs.Prelude.{ℕ, ◌≡◌, ◌*◌, List, [], ◌∷◌, map}
 use Rattle.mu_model_client.specs.declared.Stage.TheVariants.{Ended as StageEnded}
 use Rattle.mu_model_client.specs.Begin.{resume}
 use Rattle.mu_model_client.specs.Client.{Client, rows}
-use Rattle.mu_model_client_rows.specs.Scenes.{Says, step_by, image, plan, update_status, no_job_status, shown_image}
+use Rattle.mu_model_client_rows.specs.Scenes.{Says, TakesCancel, step_by, image, plan, update_status, no_job_status, shown_image}
 
 abbrev pub resting : (phase : ℕ) → Client
 resting phase = resume (plan 1) (record { address = 2; index = 0; phase = phase; update_status = 0; transfer_status = 0; progress = 0 } ∷ []) StageEnded
@@ -25,6 +25,9 @@ each_after payload = map (phases_after payload) all_phases
 
 abbrev pub single : List ℕ → List (List ℕ)
 single phases = map (λ phase. phase ∷ []) phases
+
+abbrev pub phases_canceled : (phase : ℕ) → List ℕ
+phases_canceled phase = map (λ row. row.phase) (rows (step_by image (resting phase) TakesCancel).next)
 
 pub record Ranks : Type 0 where
   pub by_rank :
@@ -51,3 +54,5 @@ pub record Ranks : Type 0 where
   -- other packets say nothing of a row
   pub transfer : each_after (0x83 ∷ 0x03 ∷ 4 ∷ 0 ∷ []) ≡ single all_phases
   pub metadata : each_after (0x83 ∷ 0x0b ∷ 5 ∷ 0 ∷ []) ≡ single all_phases
+  -- a cancelling makes each row Transfer Canceled that isn't final
+  pub canceled : map phases_canceled all_phases ≡ single (7 ∷ 7 ∷ 7 ∷ 7 ∷ 7 ∷ 7 ∷ 7 ∷ 7 ∷ 8 ∷ 9 ∷ 7 ∷ [])
