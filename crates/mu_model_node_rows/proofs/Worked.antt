@@ -5,6 +5,7 @@ use Rattle.mu_model_wire.specs.Reading.{word_at, octets_at, opcode_at, pattern_a
 use Rattle.mu_model_node_rows.specs.Tables.{EachMessage}
 use Rattle.mu_model_node_rows.specs.Runs.{BlockByBlock, UpdateByUpdate}
 use Rattle.mu_model_node_rows.specs.Others.{Addresses, Moments, Logs, Operations, Worn, Pairs}
+use Rattle.mu_model_node_rows.specs.Sessions.{Sessions}
 
 pub each_message_is : EachMessage
 unfolding word_at octets_at opcode_at sha256 digest_bytes hash_after compress rounds schedule first_words
@@ -41,3 +42,7 @@ worn_are = record { started = refl; begun = refl; put = refl; verified = refl; r
 pub pairs : Pairs
 unfolding word_at octets_at opcode_at sha256 digest_bytes hash_after compress rounds schedule first_words
 pairs = record { told = refl; compared = refl; active = refl; log = refl }
+
+pub sessions : Sessions
+unfolding word_at octets_at opcode_at sha256 digest_bytes hash_after compress rounds schedule first_words
+sessions = record { started = refl; running = refl; in_block = refl; whole = refl; verified = refl; applying = refl; pulled = refl; failed = refl; active = refl; canceled = refl; pull_canceled = refl; transfer_canceled = refl; timed_out = refl; suspended = refl; anew = refl; resumed = refl; goes_on = refl }

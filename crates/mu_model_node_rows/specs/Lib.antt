@@ -8,3 +8,4 @@ pub mod RunsOfBlocks
 pub mod RunsOfUpdates
 pub mod Runs
 pub mod Others
+pub mod Sessions

@@ -2,6 +2,7 @@
 
 ghost use Rattle.mu_model_node_rows.specs.Others.{Addresses, Logs, Moments, Operations, Pairs, Worn};
 ghost use Rattle.mu_model_node_rows.specs.Runs.{BlockByBlock, UpdateByUpdate};
+ghost use Rattle.mu_model_node_rows.specs.Sessions.{Sessions};
 ghost use Rattle.mu_model_node_rows.specs.Tables.{EachMessage};
 
 /// What each message does in each phase: its answer, the phases and the record count after it, and whether it counts as heard.
@@ -31,4 +32,9 @@ pub fn log_and_flash()
 /// A node with two images.
 pub fn two_images()
     ensures { Pairs }
+{}
+
+/// What is left of a link that goes, and of one that is ready again.
+pub fn links()
+    ensures { Sessions }
 {}
