@@ -1,6 +1,7 @@
 // What holds of every server.
 ghost use Rattle.std.specs.Prelude.{◌≡◌, ◌≤◌, ℕ, [], None, length};
 ghost use Rattle.mu_model_flash.specs.Run.{either, Ran};
+ghost use Rattle.mu_model_record.specs.Record.{IsRecord};
 ghost use Rattle.mu_model_record.specs.Represents.{RepresentsStore};
 ghost use Rattle.mu_model_record.specs.Store.{StoreState};
 ghost use Rattle.mu_model_represents.specs.BlobPart.{IsBlobRecord};
@@ -18,6 +19,7 @@ use mu_outside::Flash;
 impl<F: Flash> BlobServer<F> {
     /// What holds of every server. It does nothing.
     pub fn known(&self)
+        ensures is_record { fault_of self.now ≡ None → IsRecord (place_record (place_of self.now)) }
         ensures job { fault_of self.now ≡ None → IsBlobRecord (place_record (place_of self.now)) (part_in (store_of self.now)) }
         ensures few { fault_of self.now ≡ None → length (flags_in (store_of self.now)) ≤ 256 }
 

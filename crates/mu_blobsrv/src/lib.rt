@@ -6,6 +6,7 @@ mod answering;
 mod chunks;
 mod jobs;
 mod laws;
+mod linked;
 mod packets;
 mod plugging;
 mod readers;

@@ -3,3 +3,4 @@ pub mod Phased
 pub mod Checks
 pub mod Steps
 pub mod Ids
+pub mod Said

@@ -1,5 +1,5 @@
 // The table: a function for each message, and for time.
-ghost use Rattle.std.specs.Prelude.{ℕ, ◌≡◌, ◌≤◌, IfErr};
+ghost use Rattle.std.specs.Prelude.{ℕ, ◌≡◌, ◌≤◌, IfOk, IfErr};
 ghost use Rattle.mu_model_image.specs.Meta.{meta_from};
 ghost use Rattle.mu_model_node.specs.UpdateMessages.{MetadataStatus, StartUpdate, UpdateCancel, UpdateApply};
 ghost use Rattle.mu_model_node.specs.NodeState.{NodeState, update_phase};
@@ -7,7 +7,7 @@ ghost use Rattle.mu_model_node.specs.UpdateTable.{status_of, update_status, chec
 ghost use Rattle.mu_model_node.specs.TimeTable.{on_time};
 ghost use Rattle.mu_update_rows.specs.Looks.{LooksAs};
 ghost use Rattle.mu_update_rows.specs.Messages.{update_start_of};
-ghost use Rattle.mu_update_rows.specs.Fits.{IsKnown};
+ghost use Rattle.mu_update_rows.specs.Fits.{IsKnown, IsTakenMeta, IsStepOf, IsTimeStepOf};
 ghost use Rattle.mu_update_rows.specs.Rows.{update_stepped, time_stepped};
 ghost use Rattle.mu_update_rows.specs.Decided.{same_seen, has_same, check_seen, taken, started, canceled, applied, timed, status_seen};
 
@@ -16,6 +16,7 @@ use crate::look::{JobLook, NodeLook};
 use crate::messages::{ShownJob, UpdateReply, UpdateStart};
 use crate::phases::{Phase, phase_in};
 use mu_image::{Meta, meta_from};
+use mu_model_image::laws::metadata as metadata_is_in_range;
 
 /// An update that is taken: its transfer has no parameters yet.
 #[derive(Clone, Copy)]
@@ -91,7 +92,9 @@ fn is_repeated(look: &NodeLook, asked: UpdateStart) -> bool
 fn checked(look: &NodeLook, index: u8, metadata: &[u8]) -> Result<Meta, u8>
     ensures known { IfErr result (λ status. status ≤ 7) }
     ensures check { result ≡ check_seen look.now index metadata.now }
+    ensures passed { IfOk result (λ meta. IsTakenMeta look.now index meta) }
 {
+    metadata_is_in_range();
     let Some(active) = look.active.get(index) else {
         return Err(4);
     };
@@ -113,6 +116,7 @@ pub fn check(look: &NodeLook, index: u8, metadata: &[u8]) -> Result<Meta, u8>
 
 fn take(look: &NodeLook, asked: UpdateStart) -> UpdateStep
     ensures known { IsKnown result }
+    ensures of { IsStepOf look.now result }
     ensures step { result ≡ taken (update_start_of asked.entry) (check_seen look.now asked.entry.index asked.entry.metadata.now) }
 {
     match checked(look, asked.index, asked.metadata) {
@@ -127,8 +131,10 @@ fn take(look: &NodeLook, asked: UpdateStart) -> UpdateStep
     }
 }
 
+#[tactic(auto, using(crate::proofs::Said::started_of))]
 fn start(look: &NodeLook, asked: UpdateStart) -> UpdateStep
     ensures known { IsKnown result }
+    ensures of { IsStepOf look.now result }
     ensures step { result ≡ started look.now (update_start_of asked.entry) }
 {
     match (phase_in(look), is_repeated(look, asked)) {
@@ -145,6 +151,7 @@ fn start(look: &NodeLook, asked: UpdateStart) -> UpdateStep
 #[tactic(auto, using(crate::proofs::Steps::start_is))]
 pub fn start_step(look: &NodeLook, asked: UpdateStart) -> UpdateStep
     ensures known { IsKnown result }
+    ensures of { IsStepOf look.now result }
     ensures step { (s : NodeState) (to : ℕ) → LooksAs look.now s → on_update s to (StartUpdate (update_start_of asked.entry)) ≡ update_stepped s to result }
 {
     start(look, asked)
@@ -162,9 +169,10 @@ fn cancel(phase: Phase) -> UpdateStep
 }
 
 /// What a Firmware Update Cancel does.
-#[tactic(auto, using(crate::proofs::Steps::cancel_is))]
+#[tactic(auto, using(crate::proofs::Steps::cancel_is, crate::proofs::Said::canceled_of))]
 pub fn cancel_step(look: &NodeLook) -> UpdateStep
     ensures known { IsKnown result }
+    ensures of { IsStepOf look.now result }
     ensures step { (s : NodeState) (to : ℕ) → LooksAs look.now s → on_update s to UpdateCancel ≡ update_stepped s to result }
 {
     cancel(phase_in(look))
@@ -182,9 +190,10 @@ fn apply(phase: Phase) -> UpdateStep
 }
 
 /// What a Firmware Update Apply does.
-#[tactic(auto, using(crate::proofs::Steps::apply_is))]
+#[tactic(auto, using(crate::proofs::Steps::apply_is, crate::proofs::Said::applied_of))]
 pub fn apply_step(look: &NodeLook) -> UpdateStep
     ensures known { IsKnown result }
+    ensures of { IsStepOf look.now result }
     ensures step { (s : NodeState) (to : ℕ) → LooksAs look.now s → on_update s to UpdateApply ≡ update_stepped s to result }
 {
     apply(phase_in(look))
@@ -201,9 +210,10 @@ fn at_time(phase: Phase) -> TimeStep
 }
 
 /// What a time event does.
-#[tactic(auto, using(crate::proofs::Steps::time_is))]
+#[tactic(auto, using(crate::proofs::Steps::time_is, crate::proofs::Said::timed_of))]
 pub fn time_step(look: &NodeLook) -> TimeStep
-    ensures { (s : NodeState) → LooksAs look.now s → on_time s (update_phase s) ≡ time_stepped s result }
+    ensures of { IsTimeStepOf look.now result }
+    ensures step { (s : NodeState) → LooksAs look.now s → on_time s (update_phase s) ≡ time_stepped s result }
 {
     at_time(phase_in(look))
 }

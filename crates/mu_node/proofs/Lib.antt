@@ -1,0 +1,4 @@
+pub mod Shown
+pub mod Booted
+pub mod Looked
+pub mod Plugged

@@ -1,0 +1,6 @@
+pub mod Rules
+pub mod Memory
+pub mod Views
+pub mod Readings
+pub mod Ways
+pub mod Boots
