@@ -115,7 +115,7 @@ are_tags active bank d sound numbers acts low =
       tag_of (blob_octets (part_of_node bank d.job)) (old_note_octets (note_of_node active d.job)) many (length_old_note (note_of_node active d.job) acts note) part (octets_old_note (note_of_node active d.job) acts note),
     )
 
-low_active : (banks : List ℕ) → 1 ≤ length banks → length banks ≤ 2 → AllByRecursion (λ (b : ℕ). b < 256) banks → AreActive banks
+pub low_active : (banks : List ℕ) → 1 ≤ length banks → length banks ≤ 2 → AllByRecursion (λ (b : ℕ). b < 256) banks → AreActive banks
 low_active [] some few low = absurd (omega arith)
 low_active (a ∷ []) some few low = one a low.0
 low_active (a ∷ b ∷ []) some few low = two a b low.0 low.1.0

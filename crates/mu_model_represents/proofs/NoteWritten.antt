@@ -11,6 +11,7 @@ use Rattle.mu_model_record.specs.Record.{zeros}
 use Rattle.mu_model_node.specs.declared.Stored.{Stored}
 use Rattle.mu_model_node.specs.declared.Stored.TheVariants.{Filling, Verified, Refused, Applied}
 use Rattle.mu_model_represents.specs.NodeNote.{NoteJob, NodeNote, stored_number, HasNoteJob, SpellsActive, SpellsNote, IsNodeNote, index_of, first_of, second_of, job_octets, note_octets, old_note_octets}
+pub use Rattle.mu_model_represents.specs.Notes.{FitsNote, NoteFits}
 use Rattle.mu_model_represents.proofs.Octets.{octets_cons, octets_append, octets_all, octets_zeros, octets_little, part_past, part_all, index_past, length_zeros}
 
 pub length_meta : (meta : Meta) → IsMeta meta → length (meta_octets meta) ≡ 40
@@ -19,16 +20,6 @@ length_meta meta is = omega (arith, is.digest_length)
 pub octets_meta : (meta : Meta) → length meta.digest ≡ 32 → AreOctets meta.digest → AreOctets (meta_octets meta)
 octets_meta meta many small =
     octets_append (little_bytes 4 meta.size) (little_bytes 4 meta.version ++ meta.digest) (octets_little 4 meta.size) (octets_append (little_bytes 4 meta.version) meta.digest (octets_little 4 meta.version) small)
-
--- a job that has its places
-pub record FitsNote (j : NoteJob) : Type 0 where
-  pub ttl : j.ttl < 256
-  pub meta : IsMeta j.meta
-  pub index : j.index < 256
-
-abbrev pub NoteFits : Option NoteJob → Type 0
-NoteFits None = Unit {0}
-NoteFits (Some j) = FitsNote j
 
 length_job : (job : Option NoteJob) → NoteFits job → length (job_octets job) ≡ 42
 length_job None fits = omega (arith, length_zeros 40)

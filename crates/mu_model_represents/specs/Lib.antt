@@ -2,6 +2,7 @@ pub mod BlobPart
 pub mod Octets
 pub mod Images
 pub mod NodeNote
+pub mod Notes
 pub mod RepresentsNode
 pub mod StoreStates
 pub mod Numbers

@@ -5,6 +5,7 @@ ghost use Rattle.mu_model_represents.specs.Boots.{RepresentedStoreIsFound, Serve
 ghost use Rattle.mu_model_represents.specs.Images.{BankIsOneImage, BankImageIsGood, SealedBankHasAnImage};
 ghost use Rattle.mu_model_represents.specs.Laws.{BlobPartIsOne, OctetsAreOneJob, BlobPartIsSound, ParametersOfBlocksFit, NodeTagIsOne, TagIsOneByItsNote, NodeRecordIsANode, StoreIsOneNode, OctetsAreOneNode, NodeNotesAreOfTwoKinds, OtherKindsAreNoNodes, RepresentedIsAState, NodeIsSound, RepresentedNodeIsSound, SoundNodeIsRepresented};
 ghost use Rattle.mu_model_represents.specs.Made.{StoresAreMade};
+ghost use Rattle.mu_model_represents.specs.Notes.{NodeNoteIsReadBack};
 ghost use Rattle.mu_model_represents.specs.Octets.{TagLaws};
 ghost use Rattle.mu_model_represents.specs.Short.{RecordIsShortByItsNote, NodeRecordIsShort, StoresAreReadAsNodes};
 ghost use Rattle.mu_model_represents.specs.Written.{BlobPartIsReadBack, NodeTagIsATag, NodeTagIsReadBack, OldNodeTagIsReadBack};
@@ -95,6 +96,13 @@ pub fn written_node()
     ensures represented { SoundNodeIsRepresented }
 {
     blocks();
+    metadata();
+}
+
+/// The note that is written for a node is read back by itself, whatever BLOB part stands before it.
+pub fn written_note()
+    ensures { NodeNoteIsReadBack }
+{
     metadata();
 }
 
