@@ -5,6 +5,7 @@ use Rattle.mu_model_wire.specs.Reading.{word_at, octets_at, opcode_at, pattern_a
 use Rattle.mu_model_distributor_rows.specs.Tables.{EachPhase, EachUpload}
 use Rattle.mu_model_distributor_rows.specs.Runs.{Distributions, Uploads}
 use Rattle.mu_model_distributor_rows.specs.Banks.{EachBank}
+use Rattle.mu_model_distributor_rows.specs.Progress.{EachProgress}
 
 pub each_phase : EachPhase
 unfolding word_at octets_at opcode_at pattern_at sha256 digest_bytes hash_after compress rounds schedule first_words
@@ -25,3 +26,6 @@ uploads = record { uploaded = refl; unfit = refl; broken_by_time = refl; broken_
 pub each_bank : EachBank
 unfolding word_at octets_at opcode_at pattern_at sha256 digest_bytes hash_after compress rounds schedule first_words
 each_bank = record { one = refl; three = refl; next = refl; last = refl; emptied = refl; emptied_second = refl }
+
+pub each_progress : EachProgress
+each_progress = record { without = refl; none = refl; one = refl; two = refl; all = refl; even = refl }

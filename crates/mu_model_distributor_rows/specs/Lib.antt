@@ -7,3 +7,4 @@ pub mod RunsOfDistributions
 pub mod RunsOfUploads
 pub mod Runs
 pub mod Banks
+pub mod Progress

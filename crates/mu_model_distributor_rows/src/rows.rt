@@ -1,6 +1,7 @@
 //! Worked rows of a distributor: functions that do nothing, whose contracts are evaluated.
 
 ghost use Rattle.mu_model_distributor_rows.specs.Banks.{EachBank};
+ghost use Rattle.mu_model_distributor_rows.specs.Progress.{EachProgress};
 ghost use Rattle.mu_model_distributor_rows.specs.Runs.{Distributions, Uploads};
 ghost use Rattle.mu_model_distributor_rows.specs.Tables.{EachPhase, EachUpload};
 
@@ -17,7 +18,8 @@ pub fn runs()
     ensures uploads { Uploads }
 {}
 
-/// The banks that images and uploads take.
+/// The banks that images and uploads take, and how far an upload is.
 pub fn banks()
-    ensures { EachBank }
+    ensures banks { EachBank }
+    ensures progress { EachProgress }
 {}
