@@ -4,9 +4,9 @@ use Rattle.std.specs.Prelude.{slice_index}
 use Rattle.std.proofs.lemmas.List.Elements.{All-replicate}
 use Rattle.mu_model_image.specs.Meta.{IsMeta}
 use Rattle.mu_model_record.specs.declared.Record.{Record}
-use Rattle.mu_model_record.specs.declared.BankState.TheVariants.{Empty, Filling, Sealed}
+use Rattle.mu_model_record.specs.declared.BankState.TheVariants.{Empty, Filling}
 use Rattle.mu_model_record.specs.Record.{IsRecord, IsFilling, IsEntryInRange, entry_of}
-use Rattle.mu_model_record_rows.specs.Ranges.{EachRange, of_numbers, of_banks, meta_of, IsEntryOfPage}
+use Rattle.mu_model_record_rows.specs.Ranges.{EachRange, of_numbers, of_banks, meta_of}
 
 zero_octets : (n i : ℕ) → slice_index (replicate n 0) i < 256
 zero_octets zero i = omega arith
