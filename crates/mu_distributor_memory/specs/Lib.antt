@@ -1,0 +1,4 @@
+pub mod Sound
+pub mod Looks
+pub mod Shows
+pub mod Steps
