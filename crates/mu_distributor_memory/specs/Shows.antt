@@ -27,6 +27,10 @@ rows_in m = m.rows.items
 abbrev pub upload_in : Memory → UploadPhase
 upload_in m = m.head.upload
 
+-- the banks of the images, in the order in which they were stored
+abbrev pub banks_in : Memory → List ℕ
+banks_in m = m.head.banks.items
+
 -- what the rows of the table look at, with the octets of a bank and the job of the upload
 abbrev pub seen_in : Memory → ℕ → Option UploadLook → Seen
 seen_in m capacity job = look_seen m.head m.metas m.lags (length m.rows.items) capacity job

@@ -6,6 +6,8 @@ use Rattle.mu_distributor_kept.specs.declared.phase.UploadPhase.{UploadPhase}
 use Rattle.mu_distributor_kept.specs.declared.phase.UploadPhase.TheVariants.{Idle, TransferActive, TransferError, TransferSuccess}
 use Rattle.mu_distributor_rows.specs.declared.uploads.UploadStep.{UploadStep}
 use Rattle.mu_distributor_rows.specs.declared.uploads.UploadStep.TheVariants.{Keep, Resume, Store, Take, Refuse}
+use Rattle.mu_distributor_answers.specs.declared.steps.DistStep.{DistStep}
+use Rattle.mu_distributor_answers.specs.declared.steps.DistStep.TheVariants.{Upload, CancelUpload}
 use Rattle.mu_distributor_note.specs.declared.note.NoteHead.{NoteHead}
 use Rattle.mu_distributor_memory.specs.declared.memory.Memory.{Memory}
 use Rattle.mu_distributor_memory.specs.Shows.{rows_in}
@@ -26,6 +28,18 @@ fields_after u Resume f = record { upload = TransferActive; lags = false; ttl = 
 fields_after u (Store meta) f = record { upload = TransferSuccess; lags = false; ttl = u.ttl; meta = meta }
 fields_after u (Take meta bank) f = record { upload = TransferActive; lags = false; ttl = u.ttl; meta = meta }
 fields_after u (Refuse status) f = f
+
+-- the phase of the upload after a step
+abbrev pub phase_by : UploadStep → UploadPhase → UploadPhase
+phase_by Resume phase = TransferActive
+phase_by (Store meta) phase = TransferSuccess
+phase_by (Take meta bank) phase = TransferActive
+phase_by _ phase = phase
+
+abbrev pub phase_after : DistStep → UploadPhase → UploadPhase
+phase_after (Upload u step) phase = phase_by step phase
+phase_after CancelUpload phase = Idle
+phase_after _ phase = phase
 
 -- all but these, and but the images
 pub record SameBesideUpload (old new : Memory) : Type 0 where

@@ -4,8 +4,6 @@
 mod memory;
 mod noting;
 mod steps;
-#[cfg(test)]
-mod tests;
 
 pub use memory::Memory;
 pub use mu_distributor_answers::{Decision, DistRequest, DistStep};

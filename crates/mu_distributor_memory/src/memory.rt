@@ -6,7 +6,7 @@ ghost use Rattle.mu_distributor_memory.specs.Looks.{look_seen};
 
 use mu_distributor_answers::{Decision, DistRequest, decide};
 use mu_distributor_note::{NoteHead, ReceiverRow, Rows, UploadPhase};
-use mu_distributor_rows::{DistAnswer, DistLook, UploadLook};
+use mu_distributor_rows::{DistAnswer, DistLook, UploadLook, has_bank};
 use mu_image::Meta;
 use mu_model_distributor::DistPhase;
 
@@ -53,12 +53,14 @@ impl Memory {
     ghost use Rattle.std.specs.Prelude.{◌≡◌, ◌≤◌, ◌<◌, ◌*◌, ◌^◌, length, map};
     ghost use Rattle.mu_model_distributor.specs.DistState.{DistState, run_upload};
     ghost use Rattle.mu_model_distributor.specs.Sound.{DistRequestFits};
+    ghost use Rattle.mu_model_represents.specs.Images.{is_among};
+    ghost use Rattle.mu_distributor_rows.specs.Decided.{is_in_part};
     ghost use Rattle.mu_distributor_rows.specs.Fits.{IsPercent};
     ghost use Rattle.mu_distributor_rows.specs.Looks.{seen, LooksAs, meta_of, phase_of};
     ghost use Rattle.mu_distributor_answers.specs.Fits.{HasFirmwareId};
     ghost use Rattle.mu_distributor_answers.specs.Messages.{dist_request_of};
     ghost use Rattle.mu_distributor_answers.specs.Steps.{shown_to};
-    ghost use Rattle.mu_distributor_memory.specs.Shows.{rows_in, upload_in, seen_in, IsHeadBy, IsHeadOf, IsMemoryOf, IsBeside, IsDecided};
+    ghost use Rattle.mu_distributor_memory.specs.Shows.{rows_in, upload_in, banks_in, seen_in, IsHeadBy, IsHeadOf, IsMemoryOf, IsBeside, IsDecided};
     ghost use Rattle.mu_distributor_memory.specs.Sound.{IsKept};
 
     /// What a note says, with the metadata of its images in their order, and whether its upload was broken off since.
@@ -85,7 +87,8 @@ impl Memory {
 
     /// The phase of the upload in the run.
     pub fn upload_phase(&self) -> UploadPhase
-        ensures { (s : DistState) → IsHeadOf self.now s → result ≡ phase_of (run_upload s) }
+        ensures run { (s : DistState) → IsHeadOf self.now s → result ≡ phase_of (run_upload s) }
+        ensures part { is_in_part result ≡ is_in_part (upload_in self.now) }
     {
         match self.head.upload {
             UploadPhase::TransferActive if self.lags => UploadPhase::TransferError,
@@ -107,6 +110,13 @@ impl Memory {
         ensures metas { (s : DistState) → IsHeadOf self.now s → result.now ≡ map meta_of s.durable.images }
     {
         &self.metas[..self.head.banks.len()]
+    }
+
+    /// Whether an image stands in a bank.
+    pub fn has_bank(&self, bank: u8) -> bool
+        ensures { result ≡ is_among (banks_in self.now) bank }
+    {
+        has_bank(self.head.banks.as_slice(), bank)
     }
 
     /// How many distributions were started.

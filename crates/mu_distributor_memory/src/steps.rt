@@ -1,5 +1,5 @@
 // What steps make of it.
-ghost use Rattle.std.specs.Prelude.{◌≡◌, ◌<◌, ◌++◌, ◌∷◌, [], ℕ, Ok, Option, List, false, length};
+ghost use Rattle.std.specs.Prelude.{◌≡◌, ◌<◌, ◌++◌, ◌∷◌, [], ℕ, Ok, Err, Option, List, false, length};
 ghost use Rattle.mu_model_distributor.specs.DistState.{StoredImage, DistState};
 ghost use Rattle.mu_model_distributor.specs.Firmware.{with_images};
 ghost use Rattle.mu_distmsg.specs.declared.message.ReceiverRow.{ReceiverRow};
@@ -7,8 +7,8 @@ ghost use Rattle.mu_distributor_rows.specs.declared.looks.UploadLook.{UploadLook
 ghost use Rattle.mu_distributor_rows.specs.Messages.{upload_start_of};
 ghost use Rattle.mu_distributor_answers.specs.Fits.{CanStep};
 ghost use Rattle.mu_distributor_answers.specs.Steps.{stepped, is_of_distribution};
-ghost use Rattle.mu_distributor_memory.specs.Shows.{rows_in, seen_in, IsHeadOf, IsBeside};
-ghost use Rattle.mu_distributor_memory.specs.Steps.{upload_fields, fields_after, SameBesideUpload, SameImages};
+ghost use Rattle.mu_distributor_memory.specs.Shows.{rows_in, upload_in, banks_in, seen_in, IsHeadOf, IsBeside};
+ghost use Rattle.mu_distributor_memory.specs.Steps.{phase_after, upload_fields, fields_after, SameBesideUpload, SameImages};
 
 use crate::memory::Memory;
 use mu_distributor_answers::{DistStep, delete_images};
@@ -60,7 +60,9 @@ impl Memory {
     pub fn take<'a>(&mut self, step: DistStep<'a>)
         ensures head { (address : ℕ) (s t : DistState) (capacity : ℕ) (job : Option UploadLook) (rows : List ReceiverRow) → IsHeadOf self.old s → IsBeside capacity job s
             → CanStep (seen_in self.old capacity job) step.entry → is_of_distribution step.entry ≡ false → stepped address s rows step.entry ≡ Ok t → IsHeadOf self.new t }
+        ensures told { (address : ℕ) (s : DistState) (rows : List ReceiverRow) (status : ℕ) → is_of_distribution step.entry ≡ false → stepped address s rows step.entry ≡ Err status → self.new ≡ self.old }
         ensures rows { rows_in self.new ≡ rows_in self.old }
+        ensures upload { upload_in self.new ≡ phase_after step.entry (upload_in self.old) }
     {
         match step {
             DistStep::Tell(_) | DistStep::Receivers | DistStep::Distribution(_) => {}
@@ -75,10 +77,11 @@ impl Memory {
 
     /// Adds an image behind the others, of which there are at most three.
     pub fn store(&mut self, bank: u8, meta: Meta)
-        requires { length self.old.head.banks.items < 4 }
+        requires { length (banks_in self.old) < 4 }
         ensures head { (s : DistState) (x : StoredImage) → IsHeadOf self.old s → x.bank ≡ bank → x.image.meta ≡ meta
             → IsHeadOf self.new (with_images s (s.durable.images ++ x ∷ [])) }
         ensures rows { rows_in self.new ≡ rows_in self.old }
+        ensures upload { upload_in self.new ≡ upload_in self.old }
     {
         self.metas[self.head.banks.len()] = meta;
         self.head.banks.push(bank);
