@@ -61,6 +61,15 @@ impl<F: Flash> BlobServer<F> {
         self.session.resume(now);
     }
 
+    /// The link becomes Cut, and the block that comes is gone. No fault is kept.
+    pub fn unlink(&mut self)
+        requires { fault_of self.old ≡ None }
+        ensures store { store_of self.new ≡ store_of self.old }
+        ensures session { session_of self.new ≡ unlinked (session_of self.old) }
+    {
+        self.session.unlink();
+    }
+
     /// Writes one record with this note, all else as it was.
     pub fn commit(&mut self, note: &Note) -> Result<(), StoreFault>
         ensures answers { Answers (place_of self.new) result }

@@ -1,5 +1,5 @@
 // What holds of every server.
-ghost use Rattle.std.specs.Prelude.{◌≡◌, ◌≤◌, ℕ, [], None, length};
+ghost use Rattle.std.specs.Prelude.{◌≡◌, ◌≤◌, ℕ, [], None, false, length};
 ghost use Rattle.mu_model_flash.specs.Run.{either, Ran};
 ghost use Rattle.mu_model_record.specs.Record.{IsRecord};
 ghost use Rattle.mu_model_record.specs.Represents.{RepresentsStore};
@@ -7,8 +7,8 @@ ghost use Rattle.mu_model_record.specs.Store.{StoreState};
 ghost use Rattle.mu_model_represents.specs.BlobPart.{IsBlobRecord};
 ghost use Rattle.mu_blob_session.specs.Sound.{Suits};
 ghost use Rattle.mu_block.specs.Coming.{IsOpen};
-ghost use Rattle.mu_place.specs.Place.{place_seen, place_record, PlaceHolds};
-ghost use Rattle.mu_kept.specs.Views.{part_in, flags_in, serving_in};
+ghost use Rattle.mu_place.specs.Place.{place_seen, place_record, place_filling, PlaceHolds};
+ghost use Rattle.mu_kept.specs.Views.{job_in, part_in, has_parameters, flags_in, serving_in};
 ghost use Rattle.mu_kept.specs.Shows.{Shows, held_in, served_in};
 ghost use Rattle.mu_blobsrv.specs.Suits.{Lacks};
 ghost use Rattle.mu_blobsrv.specs.Views.{store_of, place_of, fault_of, session_of, coming_of, server_of};
@@ -21,6 +21,7 @@ impl<F: Flash> BlobServer<F> {
     pub fn known(&self)
         ensures is_record { fault_of self.now ≡ None → IsRecord (place_record (place_of self.now)) }
         ensures job { fault_of self.now ≡ None → IsBlobRecord (place_record (place_of self.now)) (part_in (store_of self.now)) }
+        ensures rests { fault_of self.now ≡ None → has_parameters (job_in (store_of self.now)) ≡ false → place_filling (place_of self.now) ≡ None }
         ensures few { fault_of self.now ≡ None → length (flags_in (store_of self.now)) ≤ 256 }
 
         // the block that comes

@@ -1,5 +1,5 @@
 -- What a request comes to: the state that its step leads to or the status that refuses it, and its answer over what stands then.
-use Rattle.std.specs.Prelude.{◌≡◌, ℕ, [], List, Some, None, Result, Ok, Err}
+use Rattle.std.specs.Prelude.{◌≡◌, ℕ, Bool, true, false, [], List, Some, None, Result, Ok, Err}
 use Rattle.mu_distmsg.specs.declared.message.ReceiverRow.{ReceiverRow}
 use Rattle.mu_model_distributor.specs.Requests.{DistRequest, ReceiversAdd, ReceiversDeleteAll, ReceiversGet, CapabilitiesGet, DistributionGet, DistributionStart, DistributionSuspend, DistributionCancel, DistributionApply, UploadGet, StartUpload, StartUploadOob, UploadCancel, FirmwareGet, FirmwareGetByIndex, FirmwareDelete, FirmwareDeleteAll}
 use Rattle.mu_model_distributor.specs.Replies.{DistReply}
@@ -50,6 +50,18 @@ status_of _ = 0
 abbrev pub KeepsRows : DistStep → (old new : List ReceiverRow) → Type 0
 KeepsRows Receivers old new = Unit {0}
 KeepsRows _ old new = new ≡ old
+
+-- requests on the distribution itself, and its steps
+abbrev pub is_on_distribution : DistRequest → Bool
+is_on_distribution (DistributionStart settings) = true
+is_on_distribution DistributionSuspend = true
+is_on_distribution DistributionCancel = true
+is_on_distribution DistributionApply = true
+is_on_distribution _ = false
+
+abbrev pub is_of_distribution : DistStep → Bool
+is_of_distribution (Distribution step) = true
+is_of_distribution _ = false
 
 -- what answers a request, with a status, over what stands when it is answered
 abbrev pub shown_to : DistRequest → ℕ → DistState → DistReply

@@ -1,10 +1,12 @@
 // What a message asks of a Firmware Distribution Server.
-ghost use Rattle.std.specs.Prelude.{◌≡◌, IfSome};
+ghost use Rattle.std.specs.Prelude.{◌≡◌, IfSome, MatchOption};
 ghost use Rattle.std.specs.Option.{option_map};
+ghost use Rattle.mu_model_image.specs.Meta.{meta_from, IsMeta};
 ghost use Rattle.mu_model_wire.specs.Reading.{message_at};
 ghost use Rattle.mu_model_wire.specs.Distribution.{distribution_rows};
 ghost use Rattle.mu_distmsg.specs.View.{view, InRange};
 ghost use Rattle.mu_model_distributor.specs.Requests.{dist_request_of as asks};
+ghost use Rattle.mu_model_distributor.specs.Sound.{DistRequestFits};
 ghost use Rattle.mu_distributor_answers.specs.Messages.{dist_request_of, settings_of, asked_in};
 ghost use Rattle.mu_distributor_answers.specs.Fits.{HasFirmwareId};
 
@@ -12,6 +14,7 @@ use crate::messages::DistRequest;
 use mu_distmsg::{DistMsg, read};
 use mu_distributor_rows::UploadStart;
 use mu_model_distributor::Settings;
+use mu_model_image::laws::metadata;
 
 // Where a distribution goes to a label, it has no settings; without a group it goes to each receiver by itself.
 fn settings_to(label: Option<[u8; 16]>, group: Option<u16>, settings: Settings) -> Option<Settings>
@@ -27,11 +30,19 @@ fn settings_to(label: Option<[u8; 16]>, group: Option<u16>, settings: Settings) 
     }
 }
 
+// Metadata that are read are in their ranges.
+fn metadata_fits(octets: &[u8])
+    ensures { MatchOption (meta_from octets.now) (Unit {0}) IsMeta }
+{
+    metadata();
+}
+
 /// What a message asks of a Firmware Distribution Server, if it takes such a message.
 pub fn request_of<'a>(message: DistMsg<'a>) -> Option<DistRequest<'a>>
     requires { InRange message }
     ensures asks { option_map dist_request_of result ≡ asks (view message.entry) }
     ensures id { IfSome result (λ request. HasFirmwareId request) }
+    ensures fits { IfSome result (λ request. DistRequestFits (dist_request_of request)) }
 {
     match message {
         DistMsg::ReceiversAdd { entries } => Some(DistRequest::ReceiversAdd { entries }),
@@ -74,14 +85,17 @@ pub fn request_of<'a>(message: DistMsg<'a>) -> Option<DistRequest<'a>>
             size,
             metadata,
             fwid,
-        } => Some(DistRequest::StartUpload(UploadStart {
-            ttl,
-            base,
-            id,
-            size,
-            metadata,
-            fwid,
-        })),
+        } => {
+            metadata_fits(metadata);
+            Some(DistRequest::StartUpload(UploadStart {
+                ttl,
+                base,
+                id,
+                size,
+                metadata,
+                fwid,
+            }))
+        }
         DistMsg::UploadStartOob { .. } => Some(DistRequest::StartUploadOob),
         DistMsg::UploadCancel => Some(DistRequest::UploadCancel),
         DistMsg::FirmwareGet { fwid } => Some(DistRequest::FirmwareGet { fwid }),
@@ -96,6 +110,7 @@ pub fn request_of<'a>(message: DistMsg<'a>) -> Option<DistRequest<'a>>
 pub fn request_at<'a>(payload: &'a [u8]) -> Option<DistRequest<'a>>
     ensures asks { option_map dist_request_of result ≡ asked_in (message_at distribution_rows payload.now) }
     ensures id { IfSome result (λ request. HasFirmwareId request) }
+    ensures fits { IfSome result (λ request. DistRequestFits (dist_request_of request)) }
 {
     match read(payload) {
         Ok(message) => request_of(message),

@@ -67,7 +67,7 @@ impl<'a> DistStep<'a> {
     ghost use Rattle.mu_distmsg.specs.declared.message.ReceiverRow.{ReceiverRow};
     ghost use Rattle.mu_model_distributor.specs.DistState.{DistState};
     ghost use Rattle.mu_distributor_answers.specs.Fits.{IsKnownStep};
-    ghost use Rattle.mu_distributor_answers.specs.Steps.{stepped, status_of};
+    ghost use Rattle.mu_distributor_answers.specs.Steps.{stepped, status_of, is_of_distribution};
 
     /// The status that is answered: 0 unless the step refuses or tells another.
     pub fn status(self) -> u8
@@ -85,5 +85,12 @@ impl<'a> DistStep<'a> {
             | DistStep::DeleteImages(_)
             | DistStep::DeleteAllImages => 0,
         }
+    }
+
+    /// Whether the distribution itself is stepped, or refuses to be.
+    pub fn is_of_distribution(self) -> bool
+        ensures { result ≡ is_of_distribution self.entry }
+    {
+        matches!(self, DistStep::Distribution(_))
     }
 }

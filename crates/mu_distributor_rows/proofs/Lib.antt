@@ -1,7 +1,9 @@
 pub mod Seen
 pub mod UploadRows
+pub mod UploadCan
 pub mod UploadDue
 pub mod DistributionRows
 pub mod FirmwareRows
 pub mod ReceiverRows
 pub mod Listing
+pub mod ShownRows

@@ -1,5 +1,5 @@
 // Images: a function for each request.
-ghost use Rattle.std.specs.Prelude.{◌≡◌, ◌≤◌, [], true, Some, None, IfErr, length};
+ghost use Rattle.std.specs.Prelude.{◌≡◌, ◌≤◌, [], true, false, Some, None, IfErr, OnOk, length};
 ghost use Rattle.std.specs.Option.{option_map};
 ghost use Rattle.mu_model_distributor.specs.DistState.{DistState};
 ghost use Rattle.mu_model_distributor.specs.Replies.{FirmwareStatus};
@@ -7,7 +7,7 @@ ghost use Rattle.mu_model_distributor.specs.Firmware.{no_index, firmware_status,
 ghost use Rattle.mu_distributor_rows.specs.Due.{IsDueIn, IsDueOf};
 ghost use Rattle.mu_distributor_rows.specs.Looks.{seen, LooksAs};
 ghost use Rattle.mu_distributor_rows.specs.Replies.{IsIdThere};
-ghost use Rattle.mu_distributor_rows.specs.Decided.{is_in_part, has_id, place_from, deletion, whole_deletion};
+ghost use Rattle.mu_distributor_rows.specs.Decided.{run_seen, is_in_part, has_id, place_from, deletion, whole_deletion};
 ghost use Rattle.mu_distributor_rows.specs.Rows.{deleted, all_deleted};
 
 use crate::looks::{DistLook, is_at_rest, run_phase};
@@ -126,6 +126,7 @@ fn is_in_part(phase: UploadPhase) -> bool
 fn delete_any<'a>(look: DistLook<'a>) -> Result<bool, u8>
     ensures known { IfErr result (λ status. status ≤ 13) }
     ensures step { result ≡ whole_deletion (seen look.entry) }
+    ensures rests { OnOk result (is_in_part (run_seen (seen look.entry)) ≡ false) }
 {
     if !is_at_rest(look.phase) {
         return Err(7);
@@ -140,6 +141,7 @@ fn delete<'a>(look: DistLook<'a>, fwid: &[u8]) -> Result<(), u8>
     requires { length look.metas.now ≤ 4 }
     ensures known { IfErr result (λ status. status ≤ 13) }
     ensures step { result ≡ deletion (seen look.entry) fwid.now }
+    ensures rests { OnOk result (is_in_part (run_seen (seen look.entry)) ≡ false) }
 {
     if !is_at_rest(look.phase) {
         return Err(7);
@@ -160,6 +162,7 @@ pub fn firmware_delete<'a>(look: DistLook<'a>, fwid: &[u8]) -> Result<(), u8>
     ensures known { IfErr result (λ status. status ≤ 13) }
     ensures step { (s : DistState) → LooksAs look.entry s → firmware_delete s fwid.now ≡ deleted s fwid.now result }
     ensures due { (s : DistState) → LooksAs look.entry s → IsDueIn true s (deleted s fwid.now result) }
+    ensures rests { OnOk result (is_in_part (run_seen (seen look.entry)) ≡ false) }
 {
     delete(look, fwid)
 }
@@ -169,6 +172,7 @@ pub fn firmware_delete_all<'a>(look: DistLook<'a>) -> Result<bool, u8>
     ensures known { IfErr result (λ status. status ≤ 13) }
     ensures step { (s : DistState) → LooksAs look.entry s → firmware_delete_all s ≡ all_deleted s result }
     ensures due { (s : DistState) → LooksAs look.entry s → IsDueOf result s (with_images s []) }
+    ensures rests { OnOk result (is_in_part (run_seen (seen look.entry)) ≡ false) }
 {
     delete_any(look)
 }

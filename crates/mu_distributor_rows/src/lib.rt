@@ -19,7 +19,7 @@ pub use firmware::{
     all_firmware_status, firmware_delete, firmware_delete_all, firmware_get, firmware_get_by_index,
     firmware_status, has_id,
 };
-pub use looks::{DistLook, UploadLook, upload_phase};
+pub use looks::{DistLook, UploadLook, is_at_rest, upload_phase};
 pub use mu_distributor_kept::{ReceiverRow, Rows, UploadPhase};
 pub use receivers::{receivers_add, receivers_delete_all, receivers_list, receivers_status};
 pub use replies::{DistAnswer, DistReply, ShownUpload};

@@ -49,7 +49,7 @@ pub struct DistLook<'a> {
 }
 
 /// Whether there is no distribution in this phase: Idle, Completed and Failed.
-pub(crate) fn is_at_rest(phase: DistPhase) -> bool
+pub fn is_at_rest(phase: DistPhase) -> bool
     ensures { result ≡ is_at_rest phase }
 {
     match phase {

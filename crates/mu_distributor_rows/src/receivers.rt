@@ -1,6 +1,8 @@
 // Receivers: a function for each request.
 ghost use Rattle.std.specs.Prelude.{◌≡◌, ◌<◌, ◌≤◌, ◌*◌, ◌/◌, true, false, length, map, IfErr, OnErr};
 ghost use Rattle.mu_model_distributor.specs.DistState.{DistState};
+ghost use Rattle.std.specs.List.{AllByRecursion};
+ghost use Rattle.mu_model_distributor.specs.Sound.{IsEntry};
 ghost use Rattle.mu_model_distributor.specs.Receivers.{added, new_receiver, receivers_add, receivers_delete_all, receivers_list, receivers_status, rounded, is_idle};
 ghost use Rattle.mu_distributor_kept.specs.Views.{row_receiver, row_receivers};
 ghost use Rattle.mu_distributor_rows.specs.Due.{IsDueOf};
@@ -64,6 +66,7 @@ pub fn receivers_add(rows: &mut Rows, phase: DistPhase, entries: &[(u16, u8)]) -
     ensures step { (s : DistState) → AreRowsOf rows.old.items s → s.durable.phase ≡ phase → receivers_add s (entries_of entries.now) ≡ rows_stepped s rows.new.items result }
     ensures due { (s : DistState) → AreRowsOf rows.old.items s → IsDueOf result s (with_rows s rows.new.items) }
     ensures refused { OnErr result (rows.new.items ≡ rows.old.items) }
+    ensures shown { AllByRecursion IsEntry (entries_of entries.now) → AreShownRows rows.old.items → AreShownRows rows.new.items }
 {
     if !is_idle(phase) {
         return Err(BUSY_WITH_DISTRIBUTION);
@@ -82,6 +85,7 @@ pub fn receivers_delete_all(rows: &mut Rows, phase: DistPhase) -> Result<bool, u
     ensures step { (s : DistState) → AreRowsOf rows.old.items s → s.durable.phase ≡ phase → receivers_delete_all s ≡ rows_stepped s rows.new.items result }
     ensures due { (s : DistState) → AreRowsOf rows.old.items s → IsDueOf result s (with_rows s rows.new.items) }
     ensures refused { OnErr result (rows.new.items ≡ rows.old.items) }
+    ensures shown { AreShownRows rows.old.items → AreShownRows rows.new.items }
 {
     if !is_idle(phase) {
         return Err(BUSY_WITH_DISTRIBUTION);

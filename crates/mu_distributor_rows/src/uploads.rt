@@ -12,7 +12,7 @@ ghost use Rattle.mu_distributor_rows.specs.Messages.{upload_start_of};
 ghost use Rattle.mu_distributor_rows.specs.Decided.{run_seen, same_start, has_meta, taken, taken_or_resumed, offered, started_at_rest, started_in, upload_started, progress_seen, shown_seen, is_some_upload, storing_changes, resuming_changes, step_changes};
 ghost use Rattle.mu_distributor_rows.specs.Rows.{upload_stepped};
 ghost use Rattle.mu_distributor_rows.specs.Replies.{shown_upload_of, ShowsUpload};
-ghost use Rattle.mu_distributor_rows.specs.Fits.{IsKnownUpload, IsPercent};
+ghost use Rattle.mu_distributor_rows.specs.Fits.{IsKnownUpload, CanUpload, IsUploadWritten, IsPercent};
 
 use crate::banks::lowest_free;
 use crate::looks::{DistLook, UploadLook, is_at_rest, run_phase};
@@ -167,6 +167,7 @@ fn start_at_rest<'a>(look: DistLook<'a>, asked: UploadStart, phase: UploadPhase)
 pub fn upload_start<'a>(look: DistLook<'a>, asked: UploadStart) -> UploadStep
     ensures known { IsKnownUpload result }
     ensures decided { result ≡ upload_started (seen look.entry) (upload_start_of asked.entry) }
+    ensures can { CanUpload (seen look.entry) (upload_start_of asked.entry) result }
     ensures step { (s : DistState) → LooksAs look.entry s → upload_start s (upload_start_of asked.entry) (run_upload s) ≡ upload_stepped s (upload_start_of asked.entry) result }
 {
     start(look, asked)
@@ -236,7 +237,8 @@ fn are_octets(octets: &[u8])
 /// Whether what is kept changes by what an Upload Start does, so that a record is due.
 pub fn is_upload_due<'a>(look: DistLook<'a>, asked: UploadStart, step: UploadStep) -> bool
     requires { step ≡ upload_started (seen look) (upload_start_of asked) }
-    ensures { (s : DistState) → LooksAs look.entry s → IsDueIn result s (upload_stepped s (upload_start_of asked.entry) step) }
+    ensures due { (s : DistState) → LooksAs look.entry s → IsDueIn result s (upload_stepped s (upload_start_of asked.entry) step) }
+    ensures written { IsUploadWritten step result }
 {
     metadata();
     are_octets(asked.metadata);

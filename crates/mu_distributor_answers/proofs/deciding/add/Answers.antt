@@ -10,4 +10,4 @@ pub returns : goal.returns
 returns c =
     subst (Decides c.args.look c.args.rows.now.items c.receivers_add.new.rows.items (ReceiversAdd (entries_of c.args.entries.now))) (sym c.changes_by.ensures)
     (receivers_decide c.args.look c.args.rows.now.items c.receivers_add.new.rows.items (ReceiversAdd (entries_of c.args.entries.now)) (λ s. receivers_add s (entries_of c.args.entries.now)) c.receivers_add.result
-    (λ address s to. refl) c.receivers_add.ensures.known c.receivers_add.ensures.step c.receivers_add.ensures.due c.receivers_add.ensures.refused)
+    (λ address s to. refl) refl c.receivers_add.ensures.known c.receivers_add.ensures.step c.receivers_add.ensures.due c.receivers_add.ensures.refused c.receivers_add.ensures.shown)

@@ -9,4 +9,4 @@ pub returns : goal.returns
 returns c rows =
     subst (Decides c.args.look rows rows (DistributionApply)) (sym c.distributes.ensures)
     (distribution_decides c.args.look rows (DistributionApply) (λ address s. distribution_apply s s.durable.phase) c.distribution_apply.result
-    (λ address s to. refl) c.distribution_apply.ensures.known c.distribution_apply.ensures.step c.distribution_apply.ensures.due)
+    (λ address s to. refl) refl c.distribution_apply.ensures.known c.distribution_apply.ensures.step c.distribution_apply.ensures.due)

@@ -9,4 +9,4 @@ pub returns : goal.returns
 returns c rows =
     subst (Decides c.args.look rows rows (DistributionCancel)) (sym c.distributes.ensures)
     (distribution_decides c.args.look rows (DistributionCancel) (λ address s. distribution_cancel s s.durable.phase) c.distribution_cancel.result
-    (λ address s to. refl) c.distribution_cancel.ensures.known c.distribution_cancel.ensures.step c.distribution_cancel.ensures.due)
+    (λ address s to. refl) refl c.distribution_cancel.ensures.known c.distribution_cancel.ensures.step c.distribution_cancel.ensures.due)

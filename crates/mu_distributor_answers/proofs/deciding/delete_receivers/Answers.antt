@@ -9,4 +9,4 @@ pub returns : goal.returns
 returns c =
     subst (Decides c.args.look c.args.rows.now.items c.receivers_delete_all.new.rows.items (ReceiversDeleteAll)) (sym c.changes_by.ensures)
     (receivers_decide c.args.look c.args.rows.now.items c.receivers_delete_all.new.rows.items (ReceiversDeleteAll) receivers_delete_all c.receivers_delete_all.result
-    (λ address s to. refl) c.receivers_delete_all.ensures.known c.receivers_delete_all.ensures.step c.receivers_delete_all.ensures.due c.receivers_delete_all.ensures.refused)
+    (λ address s to. refl) refl c.receivers_delete_all.ensures.known c.receivers_delete_all.ensures.step c.receivers_delete_all.ensures.due c.receivers_delete_all.ensures.refused (λ fits shown. c.receivers_delete_all.ensures.shown shown))

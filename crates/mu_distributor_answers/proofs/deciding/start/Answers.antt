@@ -9,4 +9,4 @@ pub returns : goal.returns
 returns c rows =
     subst (Decides c.args.look rows rows (DistributionStart c.args.settings)) (sym c.distributes.ensures)
     (distribution_decides c.args.look rows (DistributionStart c.args.settings) (λ address s. distribution_start address s c.args.settings s.durable.phase) c.distribution_start.result
-    (λ address s to. refl) c.distribution_start.ensures.known c.distribution_start.ensures.step c.distribution_start.ensures.due)
+    (λ address s to. refl) refl c.distribution_start.ensures.known c.distribution_start.ensures.step c.distribution_start.ensures.due)

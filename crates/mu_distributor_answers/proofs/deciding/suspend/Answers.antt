@@ -9,4 +9,4 @@ pub returns : goal.returns
 returns c rows =
     subst (Decides c.args.look rows rows (DistributionSuspend)) (sym c.distributes.ensures)
     (distribution_decides c.args.look rows (DistributionSuspend) (λ address s. distribution_suspend s s.durable.phase) c.distribution_suspend.result
-    (λ address s to. refl) c.distribution_suspend.ensures.known c.distribution_suspend.ensures.step c.distribution_suspend.ensures.due)
+    (λ address s to. refl) refl c.distribution_suspend.ensures.known c.distribution_suspend.ensures.step c.distribution_suspend.ensures.due)
