@@ -2,8 +2,8 @@
 ghost use Rattle.std.specs.Prelude.{◌≡◌};
 ghost use Rattle.mu_model_distributor.specs.Commit.{recorded};
 ghost use Rattle.mu_model_distributor.specs.DistState.{DistState};
-ghost use Rattle.mu_model_represents.specs.DistributorNote.{distributor_octets};
-ghost use Rattle.mu_model_represents.specs.RepresentsDistributor.{note_of_distributor};
+ghost use Rattle.mu_model_represents_distributor.specs.DistributorNote.{distributor_octets};
+ghost use Rattle.mu_model_represents_distributor.specs.RepresentsDistributor.{note_of_distributor};
 ghost use Rattle.mu_distributor_rows.specs.Decided.{is_in_part};
 ghost use Rattle.mu_distributor_memory.specs.Shows.{rows_in, upload_in, banks_in, IsMemoryOf};
 
