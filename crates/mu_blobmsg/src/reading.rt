@@ -15,7 +15,10 @@ use mu_model_wire::laws::reads_what_is_spelled;
 use mu_model_wire::reports::lists;
 use mu_report::{Report, decode_list};
 
+// A message takes 800 octets for its list. Whoever takes it apart at once never makes it, where its reading is inlined.
+
 /// The message that the octets spell, or the first place where they spell none.
+#[inline(always)]
 pub fn read<'a>(bytes: &'a [u8]) -> Result<BlobMsg<'a>, Refusal>
     // What the octets are by the rows of the grammar: this message, or this refusal.
     ensures exact { Gives view result (message_at blob_rows bytes.now) }
@@ -26,6 +29,7 @@ pub fn read<'a>(bytes: &'a [u8]) -> Result<BlobMsg<'a>, Refusal>
     decoded(bytes)
 }
 
+#[inline(always)]
 fn decoded<'a>(bytes: &'a [u8]) -> Result<BlobMsg<'a>, Refusal>
     ensures { Gives view result (message_at blob_rows bytes.now) }
 {
@@ -56,6 +60,7 @@ fn decoded<'a>(bytes: &'a [u8]) -> Result<BlobMsg<'a>, Refusal>
     }
 }
 
+#[inline(always)]
 fn transfer_get<'a>(cursor: Cursor<'a>) -> Result<BlobMsg<'a>, Refusal>
     ensures { Gives view result (row_at (Some transfer_get) 0x8300 cursor.entry) }
 {
@@ -63,6 +68,7 @@ fn transfer_get<'a>(cursor: Cursor<'a>) -> Result<BlobMsg<'a>, Refusal>
     Ok(BlobMsg::TransferGet)
 }
 
+#[inline(always)]
 fn transfer_start<'a>(mut cursor: Cursor<'a>) -> Result<BlobMsg<'a>, Refusal>
     ensures { Gives view result (row_at (Some transfer_start) 0x8301 cursor.entry) }
 {
@@ -86,6 +92,7 @@ fn transfer_start<'a>(mut cursor: Cursor<'a>) -> Result<BlobMsg<'a>, Refusal>
     })
 }
 
+#[inline(always)]
 fn transfer_cancel<'a>(mut cursor: Cursor<'a>) -> Result<BlobMsg<'a>, Refusal>
     ensures { Gives view result (row_at (Some transfer_cancel) 0x8302 cursor.entry) }
 {
@@ -94,6 +101,7 @@ fn transfer_cancel<'a>(mut cursor: Cursor<'a>) -> Result<BlobMsg<'a>, Refusal>
     Ok(BlobMsg::TransferCancel { id })
 }
 
+#[inline(always)]
 fn transfer_status<'a>(mut cursor: Cursor<'a>) -> Result<BlobMsg<'a>, Refusal>
     ensures { Gives view result (row_at (Some transfer_status) 0x8303 cursor.entry) }
 {
@@ -148,6 +156,7 @@ fn transfer_status<'a>(mut cursor: Cursor<'a>) -> Result<BlobMsg<'a>, Refusal>
     })
 }
 
+#[inline(always)]
 fn block_start<'a>(mut cursor: Cursor<'a>) -> Result<BlobMsg<'a>, Refusal>
     ensures { Gives view result (row_at (Some block_start) 0x8304 cursor.entry) }
 {
@@ -157,6 +166,7 @@ fn block_start<'a>(mut cursor: Cursor<'a>) -> Result<BlobMsg<'a>, Refusal>
     Ok(BlobMsg::BlockStart { block, chunk_size })
 }
 
+#[inline(always)]
 fn block_get<'a>(cursor: Cursor<'a>) -> Result<BlobMsg<'a>, Refusal>
     ensures { Gives view result (row_at (Some block_get) 0x8305 cursor.entry) }
 {
@@ -164,6 +174,7 @@ fn block_get<'a>(cursor: Cursor<'a>) -> Result<BlobMsg<'a>, Refusal>
     Ok(BlobMsg::BlockGet)
 }
 
+#[inline(always)]
 fn blob_information_get<'a>(cursor: Cursor<'a>) -> Result<BlobMsg<'a>, Refusal>
     ensures { Gives view result (row_at (Some blob_information_get) 0x8306 cursor.entry) }
 {
@@ -171,6 +182,7 @@ fn blob_information_get<'a>(cursor: Cursor<'a>) -> Result<BlobMsg<'a>, Refusal>
     Ok(BlobMsg::BlobInformationGet)
 }
 
+#[inline(always)]
 fn blob_information_status<'a>(mut cursor: Cursor<'a>) -> Result<BlobMsg<'a>, Refusal>
     ensures { Gives view result (row_at (Some blob_information_status) 0x8307 cursor.entry) }
 {
@@ -194,6 +206,7 @@ fn blob_information_status<'a>(mut cursor: Cursor<'a>) -> Result<BlobMsg<'a>, Re
     })
 }
 
+#[inline(always)]
 fn chunk_transfer<'a>(mut cursor: Cursor<'a>) -> Result<BlobMsg<'a>, Refusal>
     ensures { Gives view result (row_at (Some chunk_transfer) 0x66 cursor.entry) }
 {
@@ -202,6 +215,7 @@ fn chunk_transfer<'a>(mut cursor: Cursor<'a>) -> Result<BlobMsg<'a>, Refusal>
     Ok(BlobMsg::ChunkTransfer { chunk, octets })
 }
 
+#[inline(always)]
 fn block_status<'a>(mut cursor: Cursor<'a>) -> Result<BlobMsg<'a>, Refusal>
     requires { length cursor.octets ≤ 379 }
     ensures { Gives view result (row_at (Some block_status) 0x67 cursor.entry) }
@@ -246,6 +260,7 @@ fn bit_field(octets: &[u8]) -> ArrayVec<u8, 374>
     bits
 }
 
+#[inline(always)]
 fn partial_block_report<'a>(mut cursor: Cursor<'a>) -> Result<BlobMsg<'a>, Refusal>
     requires { length cursor.octets ≤ 379 }
     ensures { Gives view result (row_at (Some partial_block_report) 0x68 cursor.entry) }

@@ -8,15 +8,14 @@ use Rattle.mu_model_wire.specs.Names.{missing}
 use Rattle.mu_model_wire.specs.Patterns.{pattern_spelling, list_spelling}
 use Rattle.mu_model_wire.specs.Reports.{bit_field, field_length, shown_numbers}
 use Rattle.mu_model_wire.specs.Spelling.{Fits, EntriesFit, entries_spelling}
-use Rattle.mu_model_wire.specs.Table.{rows}
+use Rattle.mu_model_wire.specs.Blob.{blob_rows}
 use Rattle.mu_model_wire.specs.declared.reports.Report.{Report}
 use Rattle.mu_model_wire.specs.declared.reports.Report.TheVariants.{All, Nothing, Bits, List as Listed}
 use Rattle.mu_model_node.specs.declared.Parameters.{Parameters}
 use Rattle.mu_reference.specs.Fits.{ShowsWhatItMay}
 use Rattle.mu_blobmsg.specs.Ranges.{ReportFits}
 use Rattle.mu_blobmsg.specs.declared.message.BlobMsg.TheVariants.{BlockStatus, PartialBlockReport}
-use Rattle.mu_access.specs.View.{view, InRange}
-use Rattle.mu_access.specs.declared.message.Message.TheVariants.{Blob}
+use Rattle.mu_blobmsg.specs.View.{view}
 
 -- ---- the missing blocks
 
@@ -62,11 +61,11 @@ numbers_short numbers = rw (numbers_spelled numbers) (list_short numbers)
 
 -- ---- messages
 
-pub partial_fits : (numbers : List ℕ) → EntriesFit (pattern missing ∷ []) (shown_numbers missing numbers) → length (entries_spelling (pattern missing ∷ []) (shown_numbers missing numbers)) ≤ 3 * length numbers → length numbers ≤ 16 → InRange (Blob (PartialBlockReport (record { items = numbers })))
-partial_fits numbers fit short few = record { fits = ((refl, omega arith, fit), omega arith); even = tt }
+pub partial_fits : (numbers : List ℕ) → EntriesFit (pattern missing ∷ []) (shown_numbers missing numbers) → length (entries_spelling (pattern missing ∷ []) (shown_numbers missing numbers)) ≤ 3 * length numbers → length numbers ≤ 16 → Fits blob_rows (view (PartialBlockReport (record { items = numbers })))
+partial_fits numbers fit short few = ((refl, omega arith, fit), omega arith)
 
-pub block_fits : (status block size : ℕ) (report : Report) → status ≤ 10 → block < 2 ^ 16 → size < 2 ^ 16 → ReportFits report → InRange (Blob (BlockStatus status block size report))
-block_fits status block size All known number octets h = record { fits = search rules; even = tt }
-block_fits status block size Nothing known number octets h = record { fits = search rules; even = tt }
-block_fits status block size (Bits bits) known number octets h = record { fits = search rules; even = tt }
-block_fits status block size (Listed numbers) known number octets h = let fit = h.0 in let short = h.1 in record { fits = search (arith, fit, short); even = tt }
+pub block_fits : (status block size : ℕ) (report : Report) → status ≤ 10 → block < 2 ^ 16 → size < 2 ^ 16 → ReportFits report → Fits blob_rows (view (BlockStatus status block size report))
+block_fits status block size All known number octets h = search rules
+block_fits status block size Nothing known number octets h = search rules
+block_fits status block size (Bits bits) known number octets h = search rules
+block_fits status block size (Listed numbers) known number octets h = let fit = h.0 in let short = h.1 in search (arith, fit, short)

@@ -1,22 +1,26 @@
 // What a packet asks of a node.
-ghost use Rattle.std.specs.Prelude.{◌≡◌, IfSome};
-ghost use Rattle.mu_access.specs.View.{view};
+ghost use Rattle.std.specs.Prelude.{◌≡◌, IfSome, None};
 ghost use Rattle.mu_blobmsg.specs.View.{view as blob_view};
 ghost use Rattle.mu_updmsg.specs.View.{view as update_view};
+ghost use Rattle.mu_model_wire.specs.Blob.{blob_rows};
+ghost use Rattle.mu_model_wire.specs.Distribution.{distribution_rows};
+ghost use Rattle.mu_model_wire.specs.Reading.{message_at};
+ghost use Rattle.mu_model_wire.specs.Update.{update_rows};
 ghost use Rattle.mu_model_node.specs.BlobMessages.{blob_request_of as blob_request_in};
 ghost use Rattle.mu_model_node.specs.UpdateMessages.{update_request_of as update_request_in};
-ghost use Rattle.mu_model_node.specs.NodeMessages.{request_of as request_in_message, request_at};
+ghost use Rattle.mu_model_node.specs.NodeMessages.{request_in, request_at};
 ghost use Rattle.mu_model_node.specs.Sound.{RequestFits};
 ghost use Rattle.mu_reference.specs.View.{there};
 ghost use Rattle.mu_reference.specs.Messages.{blob_request_of, update_request_of, request_of};
 
-use mu_access::{Message, read};
+use mu_access::{Part, part_of};
 use mu_blobmsg::BlobMsg;
 use mu_model_node::Parameters;
 use mu_model_node::laws::octets_ask_in_range;
 use mu_reference::{BlobRequest, Request, UpdateRequest, UpdateStart};
 use mu_updmsg::UpdMsg;
 
+#[inline(always)]
 fn blob_request<'a>(message: BlobMsg<'a>) -> Option<BlobRequest<'a>>
     ensures { there blob_request_of result ≡ blob_request_in (blob_view message.entry) }
 {
@@ -52,6 +56,7 @@ fn blob_request<'a>(message: BlobMsg<'a>) -> Option<BlobRequest<'a>>
     }
 }
 
+#[inline(always)]
 fn update_request<'a>(message: UpdMsg<'a>) -> Option<UpdateRequest<'a>>
     ensures { there update_request_of result ≡ update_request_in (update_view message.entry) }
 {
@@ -84,28 +89,48 @@ fn update_request<'a>(message: UpdMsg<'a>) -> Option<UpdateRequest<'a>>
     }
 }
 
-fn request_in_message<'a>(message: Message<'a>) -> Option<Request<'a>>
-    ensures { there request_of result ≡ request_in_message (view message.entry) }
+fn blob_asked<'a>(payload: &'a [u8]) -> Option<Request<'a>>
+    ensures { there request_of result ≡ request_in (message_at blob_rows payload.now) }
 {
-    match message {
-        Message::Blob(message) => match blob_request(message) {
+    match mu_blobmsg::read(payload) {
+        Ok(message) => match blob_request(message) {
             Some(request) => Some(Request::Blob(request)),
             None => None,
         },
-        Message::Upd(message) => match update_request(message) {
+        Err(_) => None,
+    }
+}
+
+fn update_asked<'a>(payload: &'a [u8]) -> Option<Request<'a>>
+    ensures { there request_of result ≡ request_in (message_at update_rows payload.now) }
+{
+    match mu_updmsg::read(payload) {
+        Ok(message) => match update_request(message) {
             Some(request) => Some(Request::Update(request)),
             None => None,
         },
-        Message::Dist(_) => None,
+        Err(_) => None,
+    }
+}
+
+/// A node takes no message of the Firmware Distribution model.
+#[inline(never)]
+fn distribution_asked<'a>(payload: &'a [u8]) -> Option<Request<'a>>
+    ensures { there request_of result ≡ request_in (message_at distribution_rows payload.now) }
+{
+    match mu_distmsg::read(payload) {
+        Ok(_) => None,
+        Err(_) => None,
     }
 }
 
 fn request_read<'a>(payload: &'a [u8]) -> Option<Request<'a>>
     ensures { there request_of result ≡ request_at payload.now }
 {
-    match read(payload) {
-        Ok(message) => request_in_message(message),
-        Err(_) => None,
+    match part_of(payload) {
+        Part::Blob => blob_asked(payload),
+        Part::Update => update_asked(payload),
+        Part::Distribution => distribution_asked(payload),
     }
 }
 

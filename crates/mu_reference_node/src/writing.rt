@@ -15,19 +15,18 @@ ghost use Rattle.mu_reference.specs.NodeRows.{reply_of};
 ghost use Rattle.mu_reference.specs.View.{there};
 
 use arrayvec::ArrayVec;
-use mu_access::{Message, write};
 use mu_blobmsg::BlobMsg;
 use mu_codec::Payload;
 use mu_image::Fwid;
 use mu_model_node::Parameters;
 use mu_reference::{BlobReply, Reply, ShownJob, UpdateReply};
 use mu_report::{NumberSet, Report};
-use mu_updmsg::{Entry, UpdMsg};
+use mu_updmsg::{Entry, UpdMsg, write_information_status};
 
 fn blob_information(capacity: u32) -> Payload
     ensures { result.items ≡ reply_octets (ByBlob (BlobInformationStatus capacity)) }
 {
-    write(&Message::Blob(BlobMsg::BlobInformationStatus {
+    mu_blobmsg::write(&BlobMsg::BlobInformationStatus {
         min_log: 12,
         max_log: 14,
         max_chunks: 2048,
@@ -36,7 +35,7 @@ fn blob_information(capacity: u32) -> Payload
         mtu: 380,
         push: 1,
         pull: 1,
-    }))
+    })
 }
 
 fn inactive(status: u8, mode: u8, phase: u8) -> Payload
@@ -45,7 +44,7 @@ fn inactive(status: u8, mode: u8, phase: u8) -> Payload
     requires phase { phase ≡ 0 }
     ensures { (missing : List Bool) → result.items ≡ reply_octets (ByBlob (TransferStatus status mode phase None None missing)) }
 {
-    write(&Message::Blob(BlobMsg::TransferStatus {
+    mu_blobmsg::write(&BlobMsg::TransferStatus {
         status,
         mode,
         phase,
@@ -54,7 +53,7 @@ fn inactive(status: u8, mode: u8, phase: u8) -> Payload
         log: None,
         mtu: None,
         blocks: None,
-    }))
+    })
 }
 
 fn waiting(status: u8, mode: u8, phase: u8, id: u64) -> Payload
@@ -63,7 +62,7 @@ fn waiting(status: u8, mode: u8, phase: u8, id: u64) -> Payload
     requires phase { phase ≡ 1 }
     ensures { (missing : List Bool) → result.items ≡ reply_octets (ByBlob (TransferStatus status mode phase (Some id) None missing)) }
 {
-    write(&Message::Blob(BlobMsg::TransferStatus {
+    mu_blobmsg::write(&BlobMsg::TransferStatus {
         status,
         mode,
         phase,
@@ -72,7 +71,7 @@ fn waiting(status: u8, mode: u8, phase: u8, id: u64) -> Payload
         log: None,
         mtu: None,
         blocks: None,
-    }))
+    })
 }
 
 fn begun(status: u8, mode: u8, phase: u8, id: u64, parameters: Parameters, blocks: &[u8]) -> Payload
@@ -84,7 +83,7 @@ fn begun(status: u8, mode: u8, phase: u8, id: u64, parameters: Parameters, block
     requires few { length blocks.now ≤ 32 }
     ensures { (missing : List Bool) → bit_field missing ≡ blocks.now → result.items ≡ reply_octets (ByBlob (TransferStatus status mode phase (Some id) (Some parameters) missing)) }
 {
-    write(&Message::Blob(BlobMsg::TransferStatus {
+    mu_blobmsg::write(&BlobMsg::TransferStatus {
         status,
         mode,
         phase,
@@ -93,7 +92,7 @@ fn begun(status: u8, mode: u8, phase: u8, id: u64, parameters: Parameters, block
         log: Some(parameters.log),
         mtu: Some(parameters.mtu),
         blocks: Some(blocks),
-    }))
+    })
 }
 
 #[tactic(auto, using(crate::proofs::Written::short_field))]
@@ -149,12 +148,12 @@ fn block(status: u8, block: u16, chunk_size: u16, report: Report) -> Payload
     ensures { result.items ≡ reply_octets (ByBlob (BlockStatus status block chunk_size report)) }
 {
     report_fits(&report);
-    write(&Message::Blob(BlobMsg::BlockStatus {
+    mu_blobmsg::write(&BlobMsg::BlockStatus {
         status,
         block,
         chunk_size,
         report,
-    }))
+    })
 }
 
 #[tactic(auto, using(crate::proofs::Written::partial_fits))]
@@ -163,7 +162,7 @@ fn partial_of(missing: ArrayVec<u16, 379>) -> Payload
     ensures { result.items ≡ reply_octets (ByBlob (PartialBlockReport missing.items)) }
 {
     numbers_fit(missing.as_slice());
-    write(&Message::Blob(BlobMsg::PartialBlockReport { missing }))
+    mu_blobmsg::write(&BlobMsg::PartialBlockReport { missing })
 }
 
 fn partial_report(chunks: &[u16]) -> Payload
@@ -205,11 +204,7 @@ fn blob_octets(reply: BlobReply) -> Payload
 fn no_entry(count: u8, first: u8) -> Payload
     ensures { result.items ≡ reply_octets (ByUpdate (InformationStatus count first [])) }
 {
-    write(&Message::Upd(UpdMsg::InformationStatus {
-        count,
-        first,
-        entries: ArrayVec::new(),
-    }))
+    write_information_status(count, first, &[])
 }
 
 fn one_entry(count: u8, first: u8, id: &[u8]) -> Payload
@@ -217,13 +212,7 @@ fn one_entry(count: u8, first: u8, id: &[u8]) -> Payload
     requires most { length id.now ≤ 108 }
     ensures { result.items ≡ reply_octets (ByUpdate (InformationStatus count first (id.now ∷ []))) }
 {
-    let mut entries = ArrayVec::new();
-    entries.push(Entry { id, uri: &[] });
-    write(&Message::Upd(UpdMsg::InformationStatus {
-        count,
-        first,
-        entries,
-    }))
+    write_information_status(count, first, &[Entry { id, uri: &[] }])
 }
 
 fn two_entries(count: u8, first: u8, id: &[u8], second: &[u8]) -> Payload
@@ -233,17 +222,14 @@ fn two_entries(count: u8, first: u8, id: &[u8], second: &[u8]) -> Payload
     requires second_most { length second.now ≤ 108 }
     ensures { result.items ≡ reply_octets (ByUpdate (InformationStatus count first (id.now ∷ second.now ∷ []))) }
 {
-    let mut entries = ArrayVec::new();
-    entries.push(Entry { id, uri: &[] });
-    entries.push(Entry {
-        id: second,
-        uri: &[],
-    });
-    write(&Message::Upd(UpdMsg::InformationStatus {
-        count,
-        first,
-        entries,
-    }))
+    let entries = [
+        Entry { id, uri: &[] },
+        Entry {
+            id: second,
+            uri: &[],
+        },
+    ];
+    write_information_status(count, first, &entries)
 }
 
 fn information(count: u8, first: u8, ids: &[Fwid]) -> Payload
@@ -266,11 +252,11 @@ fn metadata(status: u8, index: u8) -> Payload
     requires { status ≤ 7 }
     ensures { result.items ≡ reply_octets (ByUpdate (MetadataStatus status index)) }
 {
-    write(&Message::Upd(UpdMsg::MetadataStatus {
+    mu_updmsg::write(&UpdMsg::MetadataStatus {
         status,
         additional: 0,
         index,
-    }))
+    })
 }
 
 fn update(status: u8, phase: u8, job: Option<ShownJob>) -> Payload
@@ -279,7 +265,7 @@ fn update(status: u8, phase: u8, job: Option<ShownJob>) -> Payload
     ensures { result.items ≡ reply_octets (ByUpdate (UpdateStatus status phase (there shown_job_of job))) }
 {
     match job {
-        None => write(&Message::Upd(UpdMsg::UpdateStatus {
+        None => mu_updmsg::write(&UpdMsg::UpdateStatus {
             status,
             phase,
             ttl: None,
@@ -287,8 +273,8 @@ fn update(status: u8, phase: u8, job: Option<ShownJob>) -> Payload
             base: None,
             id: None,
             index: None,
-        })),
-        Some(job) => write(&Message::Upd(UpdMsg::UpdateStatus {
+        }),
+        Some(job) => mu_updmsg::write(&UpdMsg::UpdateStatus {
             status,
             phase,
             ttl: Some(job.ttl),
@@ -296,7 +282,7 @@ fn update(status: u8, phase: u8, job: Option<ShownJob>) -> Payload
             base: Some(job.base),
             id: Some(job.id),
             index: Some(job.index),
-        })),
+        }),
     }
 }
 

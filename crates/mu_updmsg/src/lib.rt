@@ -12,4 +12,4 @@ mod writing;
 pub use message::{Entry, UpdMsg};
 pub use ranges::in_range;
 pub use reading::read;
-pub use writing::write;
+pub use writing::{write, write_information_status};

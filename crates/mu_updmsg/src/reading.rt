@@ -9,7 +9,10 @@ use arrayvec::ArrayVec;
 use mu_codec::{Cursor, Refusal, Why};
 use mu_model_wire::laws::{entries_are_read_in_turn, reads_what_is_spelled};
 
+// A message takes 3,000 octets for its list. Whoever takes it apart at once never makes it, where its reading is inlined.
+
 /// The message that the octets spell, or the first place where they spell none.
+#[inline(always)]
 pub fn read<'a>(bytes: &'a [u8]) -> Result<UpdMsg<'a>, Refusal>
     // What the octets are by the rows of the grammar: this message, or this refusal.
     ensures exact { Gives view result (message_at update_rows bytes.now) }
@@ -20,6 +23,7 @@ pub fn read<'a>(bytes: &'a [u8]) -> Result<UpdMsg<'a>, Refusal>
     decoded(bytes)
 }
 
+#[inline(always)]
 fn decoded<'a>(bytes: &'a [u8]) -> Result<UpdMsg<'a>, Refusal>
     ensures { Gives view result (message_at update_rows bytes.now) }
 {
@@ -48,6 +52,7 @@ fn decoded<'a>(bytes: &'a [u8]) -> Result<UpdMsg<'a>, Refusal>
     }
 }
 
+#[inline(always)]
 fn information_get<'a>(mut cursor: Cursor<'a>) -> Result<UpdMsg<'a>, Refusal>
     ensures { Gives view result (row_at (Some information_get) 0x8308 cursor.entry) }
 {
@@ -66,6 +71,7 @@ fn entry<'a>(cursor: &mut Cursor<'a>) -> Result<Entry<'a>, Refusal>
     Ok(Entry { id, uri })
 }
 
+#[inline(always)]
 fn entries<'a>(cursor: &mut Cursor<'a>) -> Result<ArrayVec<Entry<'a>, 94>, Refusal>
     requires { length cursor.old.octets ≤ 378 }
     ensures { Gives (λ v. map entry_shown v.items) result (entries_at (length cursor.old.octets) entry_fields cursor.old) }
@@ -79,6 +85,7 @@ fn entries<'a>(cursor: &mut Cursor<'a>) -> Result<ArrayVec<Entry<'a>, 94>, Refus
     Ok(entries)
 }
 
+#[inline(always)]
 fn information_status<'a>(mut cursor: Cursor<'a>) -> Result<UpdMsg<'a>, Refusal>
     requires { length cursor.octets ≤ 378 }
     ensures { Gives view result (row_at (Some information_status) 0x8309 cursor.entry) }
@@ -93,6 +100,7 @@ fn information_status<'a>(mut cursor: Cursor<'a>) -> Result<UpdMsg<'a>, Refusal>
     })
 }
 
+#[inline(always)]
 fn metadata_check<'a>(mut cursor: Cursor<'a>) -> Result<UpdMsg<'a>, Refusal>
     ensures { Gives view result (row_at (Some metadata_check) 0x830A cursor.entry) }
 {
@@ -101,6 +109,7 @@ fn metadata_check<'a>(mut cursor: Cursor<'a>) -> Result<UpdMsg<'a>, Refusal>
     Ok(UpdMsg::MetadataCheck { index, metadata })
 }
 
+#[inline(always)]
 fn metadata_status<'a>(mut cursor: Cursor<'a>) -> Result<UpdMsg<'a>, Refusal>
     ensures { Gives view result (row_at (Some metadata_status) 0x830B cursor.entry) }
 {
@@ -114,6 +123,7 @@ fn metadata_status<'a>(mut cursor: Cursor<'a>) -> Result<UpdMsg<'a>, Refusal>
     })
 }
 
+#[inline(always)]
 fn update_get<'a>(cursor: Cursor<'a>) -> Result<UpdMsg<'a>, Refusal>
     ensures { Gives view result (row_at (Some update_get) 0x830C cursor.entry) }
 {
@@ -121,6 +131,7 @@ fn update_get<'a>(cursor: Cursor<'a>) -> Result<UpdMsg<'a>, Refusal>
     Ok(UpdMsg::UpdateGet)
 }
 
+#[inline(always)]
 fn update_start<'a>(mut cursor: Cursor<'a>) -> Result<UpdMsg<'a>, Refusal>
     ensures { Gives view result (row_at (Some update_start) 0x830D cursor.entry) }
 {
@@ -138,6 +149,7 @@ fn update_start<'a>(mut cursor: Cursor<'a>) -> Result<UpdMsg<'a>, Refusal>
     })
 }
 
+#[inline(always)]
 fn update_cancel<'a>(cursor: Cursor<'a>) -> Result<UpdMsg<'a>, Refusal>
     ensures { Gives view result (row_at (Some update_cancel) 0x830E cursor.entry) }
 {
@@ -145,6 +157,7 @@ fn update_cancel<'a>(cursor: Cursor<'a>) -> Result<UpdMsg<'a>, Refusal>
     Ok(UpdMsg::UpdateCancel)
 }
 
+#[inline(always)]
 fn update_apply<'a>(cursor: Cursor<'a>) -> Result<UpdMsg<'a>, Refusal>
     ensures { Gives view result (row_at (Some update_apply) 0x830F cursor.entry) }
 {
@@ -152,6 +165,7 @@ fn update_apply<'a>(cursor: Cursor<'a>) -> Result<UpdMsg<'a>, Refusal>
     Ok(UpdMsg::UpdateApply)
 }
 
+#[inline(always)]
 fn update_status<'a>(mut cursor: Cursor<'a>) -> Result<UpdMsg<'a>, Refusal>
     ensures { Gives view result (row_at (Some update_status) 0x8310 cursor.entry) }
 {

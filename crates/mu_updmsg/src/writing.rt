@@ -30,7 +30,7 @@ fn spelled(msg: &UpdMsg) -> Payload
             count,
             first,
             entries,
-        } => information_status(*count, *first, entries.as_slice()),
+        } => write_information_status(*count, *first, entries.as_slice()),
         UpdMsg::MetadataCheck { index, metadata } => metadata_check(*index, metadata),
         UpdMsg::MetadataStatus {
             status,
@@ -75,10 +75,11 @@ fn information_get(first: u8, limit: u8) -> Payload
     out
 }
 
-fn information_status(count: u8, first: u8, entries: &[Entry]) -> Payload
+/// The canonical octets of a Firmware Update Information Status whose entries are lent: a message holds room for 94 of them.
+pub fn write_information_status(count: u8, first: u8, entries: &[Entry]) -> Payload
     requires fits { EntriesFit entry_fields (map entry_shown entries.now) }
     requires room { 4 + length (entries_spelling entry_fields (map entry_shown entries.now)) ≤ 380 }
-    ensures { result.items ≡ (0x83 ∷ 0x09 ∷ count ∷ first ∷ []) ++ entries_spelling entry_fields (map entry_shown entries.now) }
+    ensures { result.items ≡ spelling update_rows (view (UpdMsg.InformationStatus count first (record { items = entries.now }))) }
 {
     let mut out = Payload::new();
     put_octets(&mut out, &[0x83, 0x09, count, first]);
