@@ -136,12 +136,23 @@ impl Slots {
         self.lacking -= 1;
     }
 
+    /// How many octets are there: the room that they need joined.
+    fn size(&self) -> usize {
+        let mut size: usize = 0;
+        for place in &self.places {
+            if let Some(octets) = place {
+                size = size.saturating_add(octets.as_slice().len());
+            }
+        }
+        size
+    }
+
     /// All that is there, in order.
     #[tactic(auto, using(crate::proofs::Places::joined_more))]
     pub fn joined(&self, alloc: Global) -> Result<Vec<u8>, AllocError>
         ensures { IfOk result (λ octets. octets.items ≡ joined self.now) }
     {
-        let mut all = Vec::new(alloc);
+        let mut all = Vec::with_capacity(alloc, self.size())?;
         for place in &self.places {
             append(&mut all, place)?;
         }
@@ -158,7 +169,7 @@ impl Slots {
     ) -> Result<Vec<u8>, AllocError>
         ensures { IfOk result (λ all. all.items ≡ joined (put self.now place octets.now)) }
     {
-        let mut all = Vec::new(alloc);
+        let mut all = Vec::with_capacity(alloc, self.size().saturating_add(octets.len()))?;
         for (index, here) in self.places.iter().enumerate() {
             append_either(&mut all, index == place, octets, here)?;
         }
