@@ -151,7 +151,8 @@ impl<F: Flash> BlobServer<F> {
     /// A message of the BLOB Transfer model from a peer, to the server at an address: the row of the table (MshMBT, BLOB Transfer Server behavior).
     /// A message that a server doesn't take is passed over. The outbox is empty, and is left so where a fault is answered. `Worn` comes exactly where
     /// a record is due and the count is 4,294,967,295. The server knows nothing of a job whose image was refused: its owner answers a Transfer Cancel
-    /// then. A message that neither begins nor gives up a transfer nor completes a block makes no flash call.
+    /// then. A message that neither begins nor gives up a transfer nor completes a block makes no flash call, and one takes at most as many operations as
+    /// the block that is put has pages, and 5.
     pub fn on_blob(
         &mut self,
         me: u16,
