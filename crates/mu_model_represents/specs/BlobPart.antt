@@ -11,6 +11,7 @@ use Rattle.mu_model_record.specs.Store.{Content, nothing, held, whole, StoreStat
 use Rattle.mu_model_node.specs.declared.Parameters.{Parameters}
 use Rattle.mu_model_node.specs.Slots.{Slots}
 use Rattle.mu_model_node.specs.BlobServer.{Transfer}
+pub use Rattle.mu_model_node.specs.BlobTable.{mode_of}
 
 -- what the BLOB part keeps of a job
 pub record BlobJob : Type 0 where
@@ -152,10 +153,6 @@ pub record FitsPart (j : BlobJob) : Type 0 where
 abbrev pub PartFits : Option BlobJob → Type 0
 PartFits None = Unit {0}
 PartFits (Some j) = FitsPart j
-
-abbrev pub mode_of : Option Parameters → ℕ
-mode_of None = 0
-mode_of (Some p) = p.mode
 
 abbrev pub mtu_of : Option Parameters → ℕ
 mtu_of None = 0

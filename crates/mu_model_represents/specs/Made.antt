@@ -1,9 +1,9 @@
 -- A store with images in given banks, and one bank more that may be Filling or Sealed: each such plan is a state of a store.
-use Rattle.std.specs.Prelude.{◌≡◌, ◌==◌, ◌*◌, ℕ, ◌<◌, ◌≤◌, Bool, true, false, Option, Some, None, List, [], ◌∷◌, take}
+use Rattle.std.specs.Prelude.{◌≡◌, ◌==◌, ℕ, ◌<◌, ◌≤◌, Bool, true, false, Option, Some, None, List, [], ◌∷◌, take}
 use Rattle.mu_model_image.specs.Meta.{Image}
 use Rattle.mu_model_record.specs.declared.BankState.{BankState}
 use Rattle.mu_model_record.specs.declared.BankState.TheVariants.{Empty, Sealed}
-use Rattle.mu_model_record.specs.Record.{IsEntryInRange, IsFilling, entry_of}
+use Rattle.mu_model_record.specs.Record.{IsEntryInRange, IsFilling, entry_of, capacity_of}
 use Rattle.mu_model_record.specs.Store.{Content, nothing, whole, StoreState, content_of_bank}
 use Rattle.mu_model_record.specs.ChangeLaws.{IsTag}
 use Rattle.mu_model_represents.specs.BlobPart.{NoneFilling}
@@ -52,13 +52,13 @@ pub record IsPlan (p : Plan) (placed : ℕ → Option Image) : Type 0 where
   pub number_most : p.number ≤ 4
   pub tag : IsTag p.tag
   pub there : (b : ℕ) (x : Image) → placed b ≡ Some x → b < p.number
-  pub good : (b : ℕ) (x : Image) → placed b ≡ Some x → IsGoodImage (4096 * p.pages) x
+  pub good : (b : ℕ) (x : Image) → placed b ≡ Some x → IsGoodImage (capacity_of (made p placed).present) x
   pub bank : p.bank < p.number
   pub entry : IsEntryInRange (made p placed).present p.entry
   pub content : ContentOf p.entry p.content
 
 -- the state that it is, and what its banks hold
-pub record IsMade (p : Plan) (placed : ℕ → Option Image) : Type 0 where
+pub record IsAsPlanned (p : Plan) (placed : ℕ → Option Image) : Type 0 where
   pub state : IsStoreState (made p placed)
   pub image : (b : ℕ) (x : Image) → placed b ≡ Some x → HasImage (made p placed) b x
   pub entry : placed p.bank ≡ None → entry_of (made p placed).present p.bank ≡ p.entry
@@ -67,4 +67,4 @@ pub record IsMade (p : Plan) (placed : ℕ → Option Image) : Type 0 where
   pub sealed_image : (b : ℕ) → ¬ IsSealed p.entry → IsSealed (entry_of (made p placed).present b) → (x : Image) × (placed b ≡ Some x)
 
 abbrev pub StoresAreMade : Type 0
-StoresAreMade = (p : Plan) (placed : ℕ → Option Image) → IsPlan p placed → IsMade p placed
+StoresAreMade = (p : Plan) (placed : ℕ → Option Image) → IsPlan p placed → IsAsPlanned p placed

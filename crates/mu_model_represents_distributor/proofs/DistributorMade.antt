@@ -17,7 +17,7 @@ use Rattle.mu_model_distributor.specs.Sound.{AreStored, BanksDiffer, IsUploadJob
 use Rattle.mu_model_represents.specs.BlobPart.{TakesBy, BankGoesWith, NoneFilling, held_by}
 use Rattle.mu_model_represents.specs.Images.{IsSealed, HasImage, IsGoodImage}
 use Rattle.mu_model_represents.specs.Laws.{ParametersOfBlocksFit}
-use Rattle.mu_model_represents.specs.Made.{Plan, made, IsPlan, IsMade, StoresAreMade}
+use Rattle.mu_model_represents.specs.Made.{Plan, made, IsPlan, IsAsPlanned, StoresAreMade}
 use Rattle.mu_model_represents.specs.Octets.{TagLaws}
 use Rattle.mu_model_represents.specs.Written.{BlobPartIsReadBack}
 use Rattle.mu_model_represents_distributor.specs.Numbers.{HasDistributorNumbers}
@@ -196,7 +196,7 @@ module _ (t : TagLaws) (read : BlobPartIsReadBack) (fit : ParametersOfBlocksFit)
     content = content_ok (job_of d.upload) sound.upload_job;
   }
 
-  of_plan : IsMade plan (placed_in d.images)
+  of_plan : IsAsPlanned plan (placed_in d.images)
   of_plan = law plan (placed_in d.images) is_plan
 
   keeps_job : (job : Option UploadJob) → HasUploadJob d.capacity d.images d.upload_meta job

@@ -93,9 +93,6 @@ noted note = with_note Empty None note
 abbrev pub part_in : ℕ → Option Parameters → BlobJob
 part_in bank parameters = record { id = 7; size = 3; base = 0; bank = bank; parameters = parameters }
 
-abbrev pub begun_with : Parameters
-begun_with = record { mode = 1; size = 3; log = 12; mtu = 380 }
-
 abbrev pub uploading_note : DistributorNote
 uploading_note = record plain { upload = UploadActive }
 

@@ -7,6 +7,7 @@ use Rattle.mu_model_record.specs.Record.{zeros}
 use Rattle.mu_model_node.specs.declared.Stored.TheVariants.{Verified, Refused, Applied}
 use Rattle.mu_model_node.specs.declared.Stored.TheVariants.{Filling as Coming}
 use Rattle.mu_model_represents.specs.RepresentsNode.{IsNodeRecord}
+pub use Rattle.mu_model_represents.specs.WorkedNode.{record_of}
 
 abbrev pub digest : List ℕ
 digest = replicate 32 0x11
@@ -17,10 +18,6 @@ first = Sealed (record { size = 1; version = 1; digest = digest })
 
 abbrev pub second : BankState
 second = Sealed (record { size = 1; version = 5; digest = digest })
-
--- banks of a page
-abbrev pub record_of : (number : ℕ) → List BankState → List ℕ → Record
-record_of number banks tag = record { count = 3; pages = 1; number = number; banks = banks; tag = tag }
 
 pub record NodeRecords : Type 0 where
   -- without a job any TTL is read

@@ -11,7 +11,7 @@ use Rattle.mu_model_represents.specs.BlobPart.{BlobJob, held_by}
 use Rattle.mu_model_represents.specs.Images.{HasImage, BankIsOneImage}
 use Rattle.mu_model_represents_distributor.specs.DistributorNote.{DistributorNote}
 use Rattle.mu_model_represents_distributor.specs.RepresentsDistributor.{part_of_upload, phase_of_upload, bank_of, note_of_distributor}
-use Rattle.mu_model_stored_distributor.specs.Kept.{part_of_job, HoldsBlocks, IsHeldBy, ChangesShowInTheTag}
+use Rattle.mu_model_stored_distributor.specs.Kept.{upload_part, HoldsBlocks, SpeaksOf, ChangesShowInTheTag}
 
 images_once : BankIsOneImage → (s : StoreState) (xs ys : List StoredImage) → map bank_of xs ≡ map bank_of ys → AllByRecursion (λ (x : StoredImage). HasImage s x.bank x.image) xs
     → AllByRecursion (λ (x : StoredImage). HasImage s x.bank x.image) ys → xs ≡ ys
@@ -30,7 +30,7 @@ job_once s None None h g same = refl
 job_once s None (Some k) h g same = absurd cc
 job_once s (Some j) None h g same = absurd cc
 job_once s (Some j) (Some k) h g same =
-    let part : part_of_job j ≡ part_of_job k = cc same in
+    let part : upload_part j ≡ upload_part k = cc same in
     let bank : j.bank ≡ k.bank = ap (λ (b : BlobJob). b.bank) part in
     let parameters : j.transfer.parameters ≡ k.transfer.parameters = ap (λ (b : BlobJob). b.parameters) part in
     let held : j.transfer.held ≡ k.transfer.held = h ∙ (λ i. held_by (parameters i) (content_of_bank s (bank i))) ∙ sym g in
@@ -57,7 +57,7 @@ upload_once Uploaded (Uploading k) phase job = absurd cc
 upload_once Uploaded (Broken b) phase job = absurd cc
 upload_once Uploaded Uploaded phase job = refl
 
-by_parts : BankIsOneImage → (s : StoreState) (d e : DistDurable) → IsHeldBy s d → IsHeldBy s e → note_of_distributor d ≡ note_of_distributor e
+by_parts : BankIsOneImage → (s : StoreState) (d e : DistDurable) → SpeaksOf s d → SpeaksOf s e → note_of_distributor d ≡ note_of_distributor e
     → part_of_upload (job_of d.upload) ≡ part_of_upload (job_of e.upload) → d ≡ e
 by_parts one s d e h g note part =
     let images : d.images ≡ e.images = images_once one s d.images e.images (ap (λ (n : DistributorNote). n.banks) note) h.images g.images in

@@ -25,7 +25,7 @@ use Rattle.mu_model_represents_distributor.specs.DistributorNote.{UploadPhase, U
 use Rattle.mu_model_represents_distributor.specs.RepresentsDistributor.{UploadBank, HasUploadOf, UploadGoesWith, HasStored, upload_job_in, upload_by, IsDistributorOf}
 use Rattle.mu_model_represents_distributor.specs.Written.{KeepsUpload, KeepsUploads, KeepsDistributor}
 use Rattle.mu_model_jobs.specs.Places.{BanksChange}
-use Rattle.mu_model_stored_distributor.specs.Kept.{IsAfter, HasUploadJob, IsOffered, part_of_job, IsUnrecorded, unnamed_images, JobIsUnnamed}
+use Rattle.mu_model_stored_distributor.specs.Kept.{IsAfter, TakesUpload, IsOffered, upload_part, IsUnrecorded, unnamed_images, JobIsUnnamed}
 
 -- ---- from the relation
 
@@ -233,7 +233,7 @@ module _ (law : BanksChange) (s : StoreState) (bank : ℕ) (d e : DistDurable) (
 
 -- ---- the job's bank
 
-module _ (law : BanksChange) (s : StoreState) (d e : DistDurable) (j : UploadJob) (state : IsStoreState s) (has : HasUploadJob s d j) where
+module _ (law : BanksChange) (s : StoreState) (d e : DistDurable) (j : UploadJob) (state : IsStoreState s) (has : TakesUpload s d j) where
   job_is : KeepsUpload s j
   job_is = subst (λ (q : Option UploadJob). KeepsUploads s q) has.job has.keeps.upload
 
@@ -358,11 +358,11 @@ goes_put : (s : StoreState) (bank i : ℕ) (octets : List ℕ) (q : Option Param
 goes_put s bank i octets None h = h
 goes_put s bank i octets (Some p) h = h
 
-module _ (stay : ImagesStayByBlocks) (law : BlockIsPut) (s : StoreState) (i : ℕ) (octets : List ℕ) (d e : DistDurable) (j : UploadJob) (state : IsStoreState s) (has : HasUploadJob s d j) (takes : TakesBlocks s (part_of_job j)) where
+module _ (stay : ImagesStayByBlocks) (law : BlockIsPut) (s : StoreState) (i : ℕ) (octets : List ℕ) (d e : DistDurable) (j : UploadJob) (state : IsStoreState s) (has : TakesUpload s d j) (takes : TakesBlocks s (upload_part j)) where
   images_put : (xs : List StoredImage) → AllByRecursion (λ (x : StoredImage). HasImage s x.bank x.image) xs
       → AllByRecursion (λ (x : StoredImage). HasImage (with_block s j.bank i octets) x.bank x.image) xs
   images_put [] all = tt
-  images_put (x ∷ xs) all = (stay s (part_of_job j) i octets state takes x.bank x.image all.0, images_put xs all.1)
+  images_put (x ∷ xs) all = (stay s (upload_part j) i octets state takes x.bank x.image all.0, images_put xs all.1)
 
   pub takes_block : IsUnrecorded d (Some (record { transfer = changed (Puts i octets) j.transfer; bank = j.bank })) e → KeepsDistributor (with_block s j.bank i octets) e
   takes_block after =
@@ -377,6 +377,6 @@ module _ (stay : ImagesStayByBlocks) (law : BlockIsPut) (s : StoreState) (i : �
         upload = subst (λ (q : Option UploadJob). KeepsUploads (with_block s j.bank i octets) q) (sym after.upload) (record {
           bank = was.bank;
           goes_with = goes_put s j.bank i octets j.transfer.parameters was.goes_with;
-          held = ap (λ (h : Slots). put h i octets) was.held ∙ sym (ap (λ (t : Transfer). t.held) (law s (part_of_job j) i octets state takes));
+          held = ap (λ (h : Slots). put h i octets) was.held ∙ sym (ap (λ (t : Transfer). t.held) (law s (upload_part j) i octets state takes));
         });
       }

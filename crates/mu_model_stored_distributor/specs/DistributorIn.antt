@@ -1,13 +1,10 @@
 -- What a distributor keeps, as a function of a store's state: its tag is read by place and width.
 use Rattle.std.specs.Prelude.{◌≡◌, ◌==◌, ◌+◌, ◌*◌, ◌/◌, ◌%◌, ℕ, List, [], ◌∷◌, Option, Some, None, map, take, slice_index, if◌then◌else◌}
 use Rattle.std.specs.List.{range_with_len}
-use Rattle.mu_model_image.specs.declared.Meta.{Meta}
-use Rattle.mu_model_image.specs.Meta.{Image, meta_of}
+use Rattle.mu_model_image.specs.Meta.{meta_of}
 use Rattle.mu_model_flash.specs.Bits.{part_of}
-use Rattle.mu_model_record.specs.declared.BankState.{BankState}
-use Rattle.mu_model_record.specs.declared.BankState.TheVariants.{Empty, Filling, Sealed}
-use Rattle.mu_model_record.specs.Record.{number_at, entry_of, capacity_of}
-use Rattle.mu_model_record.specs.Store.{Content, nothing, held, whole, StoreState, content_of_bank}
+use Rattle.mu_model_record.specs.Record.{number_at, capacity_of}
+use Rattle.mu_model_record.specs.Store.{StoreState}
 use Rattle.mu_model_distributor.specs.declared.Settings.{Settings}
 use Rattle.mu_model_distributor.specs.declared.DistPhase.{DistPhase}
 use Rattle.mu_model_distributor.specs.declared.DistPhase.TheVariants.{Idle, TransferActive, TransferSuccess, ApplyingUpdate, Completed, Failed, CancelingUpdate, TransferSuspended}
@@ -15,6 +12,7 @@ use Rattle.mu_model_distributor.specs.DistState.{StoredImage, Receiver, DistDura
 use Rattle.mu_model_represents.specs.BlobPart.{blob_part, note_part}
 use Rattle.mu_model_represents_distributor.specs.DistributorNote.{UploadPhase, UploadIdle, UploadActive, UploadError, UploadSuccess, DistributorNote, SpellsDistributor}
 use Rattle.mu_model_represents_distributor.specs.RepresentsDistributor.{upload_job_in, upload_by, IsDistributor}
+pub use Rattle.mu_model_jobs.specs.Images.{no_meta, meta_in, octets_in, image_in}
 use Rattle.mu_model_jobs.specs.Parts.{part_in}
 
 -- ---- the note
@@ -72,22 +70,6 @@ abbrev pub DistributorNoteIsRead : Type 0
 DistributorNoteIsRead = (n : DistributorNote) (octets : List ℕ) → SpellsDistributor n octets → note_in octets ≡ n
 
 -- ---- the distributor
-
-abbrev pub no_meta : Meta
-no_meta = record { size = 0; version = 0; digest = [] }
-
-abbrev pub meta_in : BankState → Meta
-meta_in Empty = no_meta
-meta_in (Filling size log) = no_meta
-meta_in (Sealed meta) = meta
-
-abbrev pub octets_in : Content → List ℕ
-octets_in nothing = []
-octets_in (held blocks) = []
-octets_in (whole octets) = octets
-
-abbrev pub image_in : StoreState → ℕ → Image
-image_in s bank = record { octets = octets_in (content_of_bank s bank); meta = meta_in (entry_of s.present bank) }
 
 abbrev pub stored_in : StoreState → ℕ → StoredImage
 stored_in s bank = record { bank = bank; image = image_in s bank }

@@ -31,7 +31,7 @@ pub record IsAfter (d : DistDurable) (images : List StoredImage) (job : Option U
   pub upload : job_of e.upload ≡ job
 
 -- a distributor that has this job of an upload
-pub record HasUploadJob (s : StoreState) (d : DistDurable) (j : UploadJob) : Type 0 where
+pub record TakesUpload (s : StoreState) (d : DistDurable) (j : UploadJob) : Type 0 where
   pub keeps : KeepsDistributor s d
   pub job : job_of d.upload ≡ Some j
   pub there : j.bank < 4
@@ -65,7 +65,7 @@ FirstUploadComes =
 -- it is begun
 abbrev pub UploadBegins : Type 0
 UploadBegins =
-    (s : StoreState) (p : Parameters) (tag : List ℕ) (d e : DistDurable) (j : UploadJob) → IsStoreState s → HasUploadJob s d j
+    (s : StoreState) (p : Parameters) (tag : List ℕ) (d e : DistDurable) (j : UploadJob) → IsStoreState s → TakesUpload s d j
     → IsRecord (begun s j.bank p.size p.log tag).present
     → IsAfter d d.images (Some (record { transfer = changed (Begins p) j.transfer; bank = j.bank })) e
     → KeepsDistributor (begun s j.bank p.size p.log tag) e
@@ -73,27 +73,27 @@ UploadBegins =
 -- it is given up: no job is left
 abbrev pub UploadGoes : Type 0
 UploadGoes =
-    (s : StoreState) (tag : List ℕ) (d e : DistDurable) (j : UploadJob) → IsStoreState s → HasUploadJob s d j
+    (s : StoreState) (tag : List ℕ) (d e : DistDurable) (j : UploadJob) → IsStoreState s → TakesUpload s d j
     → IsRecord (emptied s j.bank tag).present → IsFilling (entry_of s.present j.bank) → IsAfter d d.images None e → KeepsDistributor (emptied s j.bank tag) e
 
 -- or one without parameters, be it another or the same, for a bank that is Empty then
 abbrev pub UploadComes : Type 0
 UploadComes =
-    (s : StoreState) (tag : List ℕ) (d e : DistDurable) (j next : UploadJob) → IsStoreState s → HasUploadJob s d j
+    (s : StoreState) (tag : List ℕ) (d e : DistDurable) (j next : UploadJob) → IsStoreState s → TakesUpload s d j
     → IsRecord (emptied s j.bank tag).present → IsFilling (entry_of s.present j.bank) → entry_of (emptied s j.bank tag).present next.bank ≡ Empty
     → IsOffered next → IsAfter d d.images (Some next) e → KeepsDistributor (emptied s j.bank tag) e
 
 -- it is Sealed: its image is the last one then, and the job goes
 abbrev pub UploadIsStored : Type 0
 UploadIsStored =
-    (s : StoreState) (meta : Meta) (octets tag : List ℕ) (d e : DistDurable) (j : UploadJob) → IsStoreState s → HasUploadJob s d j
+    (s : StoreState) (meta : Meta) (octets tag : List ℕ) (d e : DistDurable) (j : UploadJob) → IsStoreState s → TakesUpload s d j
     → IsRecord (sealed_up s j.bank meta octets tag).present → IsFilling (entry_of s.present j.bank)
     → IsAfter d (d.images ++ record { bank = j.bank; image = record { octets = octets; meta = meta } } ∷ []) None e
     → KeepsDistributor (sealed_up s j.bank meta octets tag) e
 
 -- a block of it is held: no record says so
-abbrev pub part_of_job : UploadJob → BlobJob
-part_of_job j = record { id = j.transfer.id; size = j.transfer.size; base = j.transfer.base; bank = j.bank; parameters = j.transfer.parameters }
+abbrev pub upload_part : UploadJob → BlobJob
+upload_part j = record { id = j.transfer.id; size = j.transfer.size; base = j.transfer.base; bank = j.bank; parameters = j.transfer.parameters }
 
 pub record IsUnrecorded (d : DistDurable) (job : Option UploadJob) (e : DistDurable) : Type 0 where
   pub count : e.count ≡ d.count
@@ -103,7 +103,7 @@ pub record IsUnrecorded (d : DistDurable) (job : Option UploadJob) (e : DistDura
 
 abbrev pub UploadTakesABlock : Type 0
 UploadTakesABlock =
-    (s : StoreState) (i : ℕ) (octets : List ℕ) (d e : DistDurable) (j : UploadJob) → IsStoreState s → HasUploadJob s d j → TakesBlocks s (part_of_job j)
+    (s : StoreState) (i : ℕ) (octets : List ℕ) (d e : DistDurable) (j : UploadJob) → IsStoreState s → TakesUpload s d j → TakesBlocks s (upload_part j)
     → IsUnrecorded d (Some (record { transfer = changed (Puts i octets) j.transfer; bank = j.bank })) e → KeepsDistributor (with_block s j.bank i octets) e
 
 -- ---- other banks
@@ -136,7 +136,7 @@ abbrev pub HoldsBlocks : StoreState → Option UploadJob → Type 0
 HoldsBlocks s None = Unit {0}
 HoldsBlocks s (Some j) = j.transfer.held ≡ held_by j.transfer.parameters (content_of_bank s j.bank)
 
-pub record IsHeldBy (s : StoreState) (d : DistDurable) : Type 0 where
+pub record SpeaksOf (s : StoreState) (d : DistDurable) : Type 0 where
   pub count : d.count ≡ s.present.count
   pub capacity : d.capacity ≡ capacity_of s.present
   pub images : AllByRecursion (λ (x : StoredImage). HasImage s x.bank x.image) d.images
@@ -146,5 +146,5 @@ pub record IsHeldBy (s : StoreState) (d : DistDurable) : Type 0 where
 -- would be another.
 abbrev pub ChangesShowInTheTag : Type 0
 ChangesShowInTheTag =
-    (s : StoreState) (d e : DistDurable) → IsHeldBy s d → IsHeldBy s e
+    (s : StoreState) (d e : DistDurable) → SpeaksOf s d → SpeaksOf s e
     → (d ≡ e) ↔ ((note_of_distributor d ≡ note_of_distributor e) × (part_of_upload (job_of d.upload) ≡ part_of_upload (job_of e.upload)))

@@ -1,12 +1,9 @@
 -- What a node keeps, as a function of a store's state: its tag is read by place and width.
 use Rattle.std.specs.Prelude.{◌≡◌, ◌==◌, ℕ, List, [], ◌∷◌, Option, Some, None, map, slice_index, if◌then◌else◌}
-use Rattle.mu_model_image.specs.declared.Meta.{Meta}
-use Rattle.mu_model_image.specs.Meta.{Image, meta_of}
+use Rattle.mu_model_image.specs.Meta.{meta_of}
 use Rattle.mu_model_flash.specs.Bits.{part_of}
-use Rattle.mu_model_record.specs.declared.BankState.{BankState}
-use Rattle.mu_model_record.specs.declared.BankState.TheVariants.{Empty, Filling, Sealed}
-use Rattle.mu_model_record.specs.Record.{entry_of, capacity_of}
-use Rattle.mu_model_record.specs.Store.{Content, nothing, held, whole, StoreState, content_of_bank}
+use Rattle.mu_model_record.specs.Record.{capacity_of}
+use Rattle.mu_model_record.specs.Store.{StoreState}
 use Rattle.mu_model_node.specs.declared.Stored.{Stored}
 use Rattle.mu_model_node.specs.declared.Stored.TheVariants.{Verified, Refused, Applied}
 use Rattle.mu_model_node.specs.declared.Stored.TheVariants.{Filling as Coming}
@@ -14,6 +11,7 @@ use Rattle.mu_model_node.specs.NodeState.{NodeDurable}
 use Rattle.mu_model_represents.specs.BlobPart.{blob_part, note_part}
 use Rattle.mu_model_represents.specs.NodeNote.{NoteJob, NodeNote, IsNodeNote}
 use Rattle.mu_model_represents.specs.RepresentsNode.{job_by, IsNode}
+pub use Rattle.mu_model_jobs.specs.Images.{no_meta, meta_in, octets_in, image_in}
 use Rattle.mu_model_jobs.specs.Parts.{part_in}
 
 -- ---- the note
@@ -43,22 +41,6 @@ abbrev pub NoteIsRead : Type 0
 NoteIsRead = (banks : ℕ) (note : NodeNote) (octets : List ℕ) → IsNodeNote banks note octets → note_in banks octets ≡ note
 
 -- ---- the node
-
-abbrev pub no_meta : Meta
-no_meta = record { size = 0; version = 0; digest = [] }
-
-abbrev pub meta_in : BankState → Meta
-meta_in Empty = no_meta
-meta_in (Filling size log) = no_meta
-meta_in (Sealed meta) = meta
-
-abbrev pub octets_in : Content → List ℕ
-octets_in nothing = []
-octets_in (held blocks) = []
-octets_in (whole octets) = octets
-
-abbrev pub image_in : StoreState → ℕ → Image
-image_in s bank = record { octets = octets_in (content_of_bank s bank); meta = meta_in (entry_of s.present bank) }
 
 abbrev pub note_of_store : StoreState → NodeNote
 note_of_store s = note_in s.present.number (note_part s.present.tag)
