@@ -1,8 +1,8 @@
 -- Rounds and chunks.
-use Rattle.std.specs.Prelude.{List, [], ◌∷◌, ◌++◌, replicate, Some, None}
+use Rattle.std.specs.Prelude.{List, [], ◌∷◌, replicate, Some, None}
 use Rattle.mu_model_client.specs.declared.Dropped.TheVariants.{Silent, Status, Barren}
 use Rattle.mu_model_client.specs.declared.Stage.TheVariants.{Transfer as StageTransfer, Ended as StageEnded}
-use Rattle.mu_model_client_rows.specs.Scenes.{block_get, update_get, blob_information_get, chunk, metadata_status, update_status, limits, check_of, start_of, transfer_of, row, Turn, quiet, sends, Says, Passes}
+use Rattle.mu_model_client_rows.specs.Scenes.{block_get, update_get, blob_information_get, metadata_status, update_status, limits, check_of, start_of, transfer_of, Turn, quiet, sends, Says, Passes}
 
 -- a round lasts 2,000 ms for each unit of the base and two more, and 20 for each of the TTL; it begins with its event
 abbrev pub round_time : List Turn

@@ -1,8 +1,8 @@
 -- Pull, and from the verification on.
-use Rattle.std.specs.Prelude.{List, [], ◌∷◌, ◌++◌, replicate, Some, None}
+use Rattle.std.specs.Prelude.{List, [], ◌∷◌, replicate, Some, None}
 use Rattle.mu_model_client.specs.declared.Dropped.TheVariants.{Silent, Status, Phase}
 use Rattle.mu_model_client.specs.declared.Stage.TheVariants.{Transfer as StageTransfer, Verified as StageVerified, Applying as StageApplying, Canceling as StageCanceling, Ended as StageEnded}
-use Rattle.mu_model_client_rows.specs.Scenes.{block_get, update_get, update_apply, update_cancel, information_get, blob_information_get, metadata_status, update_status, no_job_status, limits, check_of, start_of, transfer_of, shown_of, row, Turn, quiet, sends, Says, Passes, TakesApply, TakesCancel}
+use Rattle.mu_model_client_rows.specs.Scenes.{block_get, update_get, update_apply, update_cancel, information_get, blob_information_get, metadata_status, update_status, no_job_status, limits, check_of, start_of, transfer_of, shown_of, Turn, quiet, sends, Says, Passes, TakesApply, TakesCancel}
 
 -- wanted chunks add up, and are sent once, rising; a number past the block is no report
 abbrev pub pull_wanted : List Turn

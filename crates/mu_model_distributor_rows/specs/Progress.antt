@@ -1,5 +1,5 @@
 -- The progress of an upload: the per cent of blocks held, rounded down.
-use Rattle.std.specs.Prelude.{ℕ, ◌≡◌, [], ◌∷◌, Option, Some, None, map}
+use Rattle.std.specs.Prelude.{ℕ, ◌≡◌, [], ◌∷◌, Some, None, map}
 use Rattle.mu_model_node.specs.BlobServer.{Transfer}
 use Rattle.mu_model_node.specs.Slots.{Slots}
 use Rattle.mu_model_client.specs.Rows.{new_row}
