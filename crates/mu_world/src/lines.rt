@@ -56,7 +56,11 @@ fn put_octets(line: &mut Vec<u8>, octets: &[u8]) -> Result<(), AllocError>
 fn put_address(line: &mut Vec<u8>, address: u16) -> Result<(), AllocError>
     ensures { OnOk result (line.new.items ≡ line.old.items ++ blank ∷ address_text address) }
 {
-    put_octets(line, &address.to_be_bytes())
+    let mut digits = [0; 4];
+    if hex::encode_to_slice(&address.to_be_bytes(), &mut digits).is_err() {
+        prove!(false);
+    }
+    put_token(line, &digits)
 }
 
 fn begin(line: &mut Vec<u8>, word: &[u8]) -> Result<(), AllocError>

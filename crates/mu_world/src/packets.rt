@@ -1,11 +1,15 @@
 // Packets of the bag.
 ghost use Rattle.std.specs.Prelude.{◌≡◌, ◌/◌, ◌^◌};
 ghost use Rattle.mu_codec.specs.View.{packet_of};
-ghost use Rattle.mu_model_node.specs.NodeMessages.{request_at};
+ghost use Rattle.mu_model_node.specs.NodeMessages.{request_at, request_in};
 ghost use Rattle.mu_model_node.specs.NodeState.{is_addressee};
+ghost use Rattle.mu_model_wire.specs.Blob.{blob_rows};
+ghost use Rattle.mu_model_wire.specs.Distribution.{distribution_rows};
+ghost use Rattle.mu_model_wire.specs.Reading.{message_at};
+ghost use Rattle.mu_model_wire.specs.Update.{update_rows};
 ghost use Rattle.mu_model_world.specs.Judged.{offered, owner_of};
 
-use mu_access::{Message, read};
+use mu_access::{Part, part_of};
 use mu_codec::{Packet, Payload, put_octets};
 use mu_model_node::NodeConfig;
 use mu_updmsg::UpdMsg;
@@ -26,13 +30,44 @@ pub(crate) fn copy_of(payload: &Payload) -> Payload
     octets
 }
 
+fn offered_in_update(payload: &[u8]) -> Option<u64>
+    ensures { result ≡ offered (request_in (message_at update_rows payload.now)) }
+{
+    match mu_updmsg::read(payload) {
+        Ok(UpdMsg::UpdateStart { id, .. }) => Some(id),
+        _ => None,
+    }
+}
+
+/// No message of the BLOB Transfer model offers an update.
+fn offered_in_blob(payload: &[u8]) -> Option<u64>
+    ensures { result ≡ offered (request_in (message_at blob_rows payload.now)) }
+{
+    match mu_blobmsg::read(payload) {
+        Ok(_) => None,
+        Err(_) => None,
+    }
+}
+
+/// No message of the Firmware Distribution model offers one to a node.
+#[inline(never)]
+fn offered_in_distribution(payload: &[u8]) -> Option<u64>
+    ensures { result ≡ offered (request_in (message_at distribution_rows payload.now)) }
+{
+    match mu_distmsg::read(payload) {
+        Ok(_) => None,
+        Err(_) => None,
+    }
+}
+
 /// The BLOB ID of an update that a payload offers.
 pub(crate) fn offered(payload: &[u8]) -> Option<u64>
     ensures { result ≡ offered (request_at payload.now) }
 {
-    match read(payload) {
-        Ok(Message::Upd(UpdMsg::UpdateStart { id, .. })) => Some(id),
-        _ => None,
+    match part_of(payload) {
+        Part::Update => offered_in_update(payload),
+        Part::Blob => offered_in_blob(payload),
+        Part::Distribution => offered_in_distribution(payload),
     }
 }
 
