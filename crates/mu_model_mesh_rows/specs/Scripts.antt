@@ -718,3 +718,100 @@ distributor_torn_start = record {
       ∷ codes "row 0002 10 0 0 0"
       ∷ [];
 }
+
+-- a tear is spent where the power has gone, and by a cut
+abbrev pub torn_once : Script
+torn_once = record {
+  lines =
+      codes "node 0002 0000 1 1 hex:61"
+      ∷ codes "tear 0002 1 none"
+      ∷ codes "say 0001 0002 830d0500000700000000000100000300000002000000ba7816bf8f01cfea414140de5dae2223b00361a396177a9cb410ff61f20015ad"
+      ∷ codes "deliver 0 0002"
+      ∷ codes "deliver 0 0002"
+      ∷ codes "phase 0002"
+      ∷ codes "tear 0002 1 all"
+      ∷ codes "cut 0002"
+      ∷ codes "say 0001 0002 830e"
+      ∷ codes "deliver 2 0002"
+      ∷ codes "phase 0002"
+      ∷ [];
+  printed =
+      codes "sent 0 0001 0002 830d0500000700000000000100000300000002000000ba7816bf8f01cfea414140de5dae2223b00361a396177a9cb410ff61f20015ad"
+      ∷ codes "boot 0002 2 0"
+      ∷ codes "sent 1 0002 0001 83104005000000070000000000010000"
+      ∷ codes "phase 0002 2 1"
+      ∷ codes "boot 0002 3 0"
+      ∷ codes "sent 2 0001 0002 830e"
+      ∷ codes "sent 3 0002 0001 831000"
+      ∷ codes "phase 0002 0 0"
+      ∷ [];
+}
+
+-- and so at a distributor
+abbrev pub distributor_torn_once : Script
+distributor_torn_once = record {
+  lines =
+      codes "distributor 0001 1"
+      ∷ codes "tear 0001 1 none"
+      ∷ codes "say 0009 0001 8311020000"
+      ∷ codes "deliver 0 0001"
+      ∷ codes "deliver 0 0001"
+      ∷ codes "rows 0001"
+      ∷ codes "tear 0001 1 all"
+      ∷ codes "cut 0001"
+      ∷ codes "say 0009 0001 8312"
+      ∷ codes "deliver 2 0001"
+      ∷ codes "rows 0001"
+      ∷ [];
+  printed =
+      codes "sent 0 0009 0001 8311020000"
+      ∷ codes "boot 0001 1 0"
+      ∷ codes "sent 1 0001 0009 8313000100"
+      ∷ codes "row 0002 10 0 0 0"
+      ∷ codes "boot 0001 2 0"
+      ∷ codes "sent 2 0009 0001 8312"
+      ∷ codes "sent 3 0001 0009 8313000000"
+      ∷ [];
+}
+
+-- a packet to a group comes to its members in the order of the script: so they answer
+abbrev pub settle_pulled : Script
+settle_pulled = record {
+  lines =
+      codes "updater 0001 c000 7 5 0 pull 12 200 2 hex:616263 0003,0002"
+      ∷ codes "node 0003 c000 1 1 hex:61"
+      ∷ codes "node 0002 c000 1 1 hex:61"
+      ∷ codes "settle 7"
+      ∷ codes "phase 0002"
+      ∷ codes "phase 0003"
+      ∷ [];
+  printed =
+      codes "sent 0 0001 0003 830a000300000002000000ba7816bf8f01cfea414140de5dae2223b00361a396177a9cb410ff61f20015ad"
+      ∷ codes "sent 1 0001 0002 830a000300000002000000ba7816bf8f01cfea414140de5dae2223b00361a396177a9cb410ff61f20015ad"
+      ∷ codes "sent 2 0003 0001 830b0000"
+      ∷ codes "sent 3 0002 0001 830b0000"
+      ∷ codes "sent 4 0001 0003 830d0500000700000000000100000300000002000000ba7816bf8f01cfea414140de5dae2223b00361a396177a9cb410ff61f20015ad"
+      ∷ codes "sent 5 0001 0002 830d0500000700000000000100000300000002000000ba7816bf8f01cfea414140de5dae2223b00361a396177a9cb410ff61f20015ad"
+      ∷ codes "sent 6 0003 0001 83104005000000070000000000010000"
+      ∷ codes "sent 7 0002 0001 83104005000000070000000000010000"
+      ∷ codes "sent 8 0001 0003 8306"
+      ∷ codes "sent 9 0001 0002 8306"
+      ∷ codes "sent 10 0003 0001 83070c0e00087801001000007c0103"
+      ∷ codes "sent 11 0002 0001 83070c0e00087801001000007c0103"
+      ∷ codes "sent 12 0001 0003 8301800700000000000100030000000c7c01"
+      ∷ codes "sent 13 0001 0002 8301800700000000000100030000000c7c01"
+      ∷ codes "sent 14 0003 0001 830380020700000000000100030000000c7c0101"
+      ∷ codes "sent 15 0002 0001 830380020700000000000100030000000c7c0101"
+      ∷ codes "sent 16 0001 0003 83040000c800"
+      ∷ codes "sent 17 0001 0002 83040000c800"
+      ∷ codes "sent 18 0003 0001 67000000c800"
+      ∷ codes "sent 19 0002 0001 67000000c800"
+      ∷ codes "sent 20 0003 0001 6800"
+      ∷ codes "sent 21 0002 0001 6800"
+      ∷ codes "sent 22 0001 c000 660000616263"
+      ∷ codes "sent 23 0003 0001 68"
+      ∷ codes "sent 24 0002 0001 68"
+      ∷ codes "phase 0002 3 4"
+      ∷ codes "phase 0003 3 4"
+      ∷ [];
+}
