@@ -125,6 +125,10 @@ settle_pulled_is : IsPrinted scripts.settle_pulled
 unfolding value_at decode_pairs encode_with digits word_at octets_at opcode_at pattern_at sha256 digest_bytes hash_after compress rounds schedule first_words
 settle_pulled_is = (printed scripts.settle_pulled.lines tt).1
 
+silent_lines_is : IsPrinted scripts.silent_lines
+unfolding value_at decode_pairs encode_with digits word_at octets_at opcode_at pattern_at sha256 digest_bytes hash_after compress rounds schedule first_words
+silent_lines_is = (printed scripts.silent_lines.lines tt).1
+
 member_33_is : IsRefused refused.member_33
 unfolding value_at decode_pairs encode_with digits word_at octets_at opcode_at pattern_at sha256 digest_bytes hash_after compress rounds schedule first_words
 member_33_is = (stopped refused.member_33.before refused.member_33.line tt).3
@@ -202,7 +206,7 @@ unfolding value_at decode_pairs encode_with digits word_at octets_at opcode_at p
 late_information_is = (printed successes.late_information.lines tt).1
 
 pub each_script : EachScript
-each_script = record { one_node_answers = one_node_answers_is; a_whole_update = a_whole_update_is; nothing = nothing_is; torn_erase = torn_erase_is; torn_erase_all = torn_erase_all_is; torn_record = torn_record_is; torn_record_all = torn_record_all_is; tear_outlasts = tear_outlasts_is; tear_replaced = tear_replaced_is; tear_before_seal = tear_before_seal_is; held_blocks = held_blocks_is; unread = unread_is; moments = moments_is; three_turns = three_turns_is; present_moment = present_moment_is; settled = settled_is; another_line = another_line_is; by_rounds = by_rounds_is; grouped = grouped_is; settle_to_group = settle_to_group_is; a_distribution = a_distribution_is; distributed = distributed_is; upload_cut = upload_cut_is; distributor_torn = distributor_torn_is; distributor_torn_start = distributor_torn_start_is; torn_once = torn_once_is; distributor_torn_once = distributor_torn_once_is; settle_pulled = settle_pulled_is; list_shows_success = list_shows_success_is; late_information = late_information_is }
+each_script = record { one_node_answers = one_node_answers_is; a_whole_update = a_whole_update_is; nothing = nothing_is; torn_erase = torn_erase_is; torn_erase_all = torn_erase_all_is; torn_record = torn_record_is; torn_record_all = torn_record_all_is; tear_outlasts = tear_outlasts_is; tear_replaced = tear_replaced_is; tear_before_seal = tear_before_seal_is; held_blocks = held_blocks_is; unread = unread_is; moments = moments_is; three_turns = three_turns_is; present_moment = present_moment_is; settled = settled_is; another_line = another_line_is; by_rounds = by_rounds_is; grouped = grouped_is; settle_to_group = settle_to_group_is; a_distribution = a_distribution_is; distributed = distributed_is; upload_cut = upload_cut_is; distributor_torn = distributor_torn_is; distributor_torn_start = distributor_torn_start_is; torn_once = torn_once_is; distributor_torn_once = distributor_torn_once_is; settle_pulled = settle_pulled_is; silent_lines = silent_lines_is; list_shows_success = list_shows_success_is; late_information = late_information_is }
 
 pub each_refusal : EachRefusal
 each_refusal = record { member_33 = member_33_is; late_member = late_member_is; late_and_used = late_and_used_is; used = used_is; past_bank = past_bank_is; past_second = past_second_is; stock_past = stock_past_is; fifth_image = fifth_image_is; member_then_token = member_then_token_is; no_packet = no_packet_is; no_addressee = no_addressee_is; no_member = no_member_is; premise_from = premise_from_is; premise_id = premise_id_is; rows_of_node = rows_of_node_is; cut_updater = cut_updater_is; bad_token = bad_token_is }

@@ -815,3 +815,22 @@ settle_pulled = record {
       ∷ codes "phase 0003 3 4"
       ∷ [];
 }
+
+-- an empty line and a comment are no event, so member lines may stand behind them
+abbrev pub silent_lines : Script
+silent_lines = record {
+  lines =
+      codes "# a node"
+      ∷ []
+      ∷ codes "node 0002 0000 1 1 hex:61"
+      ∷ codes "#"
+      ∷ codes "node 0003 0000 1 2 hex:61"
+      ∷ codes "active 0003"
+      ∷ codes "# its image"
+      ∷ codes "active 0002"
+      ∷ [];
+  printed =
+      codes "active 0003 2 1 ca978112ca1bbdcafac231b39a23dc4da786eff8147c4e72b9807785afee48bb"
+      ∷ codes "active 0002 1 1 ca978112ca1bbdcafac231b39a23dc4da786eff8147c4e72b9807785afee48bb"
+      ∷ [];
+}

@@ -1,6 +1,6 @@
 -- Each script, run; and each refusal.
 use Rattle.mu_model_mesh_rows.specs.Scenes.{IsPrinted, IsRefused}
-use Rattle.mu_model_mesh_rows.specs.Scripts.{one_node_answers, a_whole_update, nothing, torn_erase, torn_erase_all, torn_record, torn_record_all, tear_outlasts, tear_replaced, tear_before_seal, held_blocks, unread, moments, three_turns, present_moment, settled, another_line, by_rounds, grouped, settle_to_group, a_distribution, distributed, upload_cut, distributor_torn, distributor_torn_start, torn_once, distributor_torn_once, settle_pulled}
+use Rattle.mu_model_mesh_rows.specs.Scripts.{one_node_answers, a_whole_update, nothing, torn_erase, torn_erase_all, torn_record, torn_record_all, tear_outlasts, tear_replaced, tear_before_seal, held_blocks, unread, moments, three_turns, present_moment, settled, another_line, by_rounds, grouped, settle_to_group, a_distribution, distributed, upload_cut, distributor_torn, distributor_torn_start, torn_once, distributor_torn_once, settle_pulled, silent_lines}
 use Rattle.mu_model_mesh_rows.specs.Successes.{list_shows_success, late_information}
 use Rattle.mu_model_mesh_rows.specs.RefusedScripts.{member_33, late_member, late_and_used, used, past_bank, past_second, stock_past, fifth_image, member_then_token, no_packet, no_addressee, no_member, premise_from, premise_id, rows_of_node, cut_updater, bad_token}
 
@@ -33,6 +33,7 @@ pub record EachScript : Type 0 where
   pub torn_once : IsPrinted torn_once
   pub distributor_torn_once : IsPrinted distributor_torn_once
   pub settle_pulled : IsPrinted settle_pulled
+  pub silent_lines : IsPrinted silent_lines
   pub list_shows_success : IsPrinted list_shows_success
   pub late_information : IsPrinted late_information
 
