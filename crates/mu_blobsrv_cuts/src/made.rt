@@ -265,6 +265,7 @@ pub fn carry<F: Flash>(
 // Each call that can answer a fault answers this one.
 pub fn keeps<F: Flash>(rt: &impl Abort, server: &mut BlobServer<F>, why: StoreFault) {
     assert_eq!(rt; server.fault(), Some(why));
+    assert_eq!(rt; server.verify(&META, true, &NOTE, &NOTE), Err(why));
     assert_eq!(rt; server.commit(&NOTE), Err(why));
     assert_eq!(rt; server.drop_job(&NOTE), Err(why));
     assert_eq!(rt; expect(rt, server, 0), Err(why));
