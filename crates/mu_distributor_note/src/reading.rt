@@ -76,7 +76,8 @@ fn meta_of(octets: &[u8]) -> Meta
 
 fn row_from(octets: &[u8]) -> ReceiverRow
     requires { length octets.now ≡ 6 }
-    ensures { row_receiver result ≡ receiver_in octets.now }
+    ensures receiver { row_receiver result ≡ receiver_in octets.now }
+    ensures progress { result.progress ≡ 0 }
 {
     ReceiverRow {
         address: LittleEndian::read_u16(octets),
@@ -91,7 +92,8 @@ fn row_from(octets: &[u8]) -> ReceiverRow
 fn rows_from(octets: &[u8]) -> Rows
     requires long { length octets.now ≡ 1728 }
     requires few { slice_index octets.now 26 ≤ 128 }
-    ensures { row_receivers result.items ≡ map (row_in octets.now) (range_with_len 0 (slice_index octets.now 26)) }
+    ensures rows { row_receivers result.items ≡ map (row_in octets.now) (range_with_len 0 (slice_index octets.now 26)) }
+    ensures blank { map (λ row. row.progress) result.items ≡ map (λ row. 0) result.items }
 {
     let mut rows = Rows::new();
     for k in 0..usize::from(octets[26]) {
@@ -135,6 +137,7 @@ fn head_from(octets: &[u8]) -> NoteHead
 /// the BLOB part aren't looked at.
 pub fn distributor_note_from(note: &Note) -> Result<(NoteHead, Rows), Foreign>
     ensures read { IfOk result (λ r. IsDistributorNote (distributor_note r.0 r.1.items) note.now) }
+    ensures blank { IfOk result (λ r. map (λ row. row.progress) r.1.items ≡ map (λ row. 0) r.1.items) }
     ensures foreign { OnErr result ((n : NoteOfDistributor) → ¬ IsDistributorNote n note.now) }
 {
     distributor_is_read();

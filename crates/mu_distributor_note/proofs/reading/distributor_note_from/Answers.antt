@@ -23,13 +23,13 @@ pub returns-then-not-follows_rules-clause-foreign : goal.returns-then-not-follow
 returns-then-not-follows_rules-clause-foreign c n h =
     let one : note_in c.args.note.now ≡ n = c.distributor_is_read.ensures.note n c.args.note.now h.spelled in
     let whole : distributor_note c.head_from-head.result c.rows_from-rows.result.items ≡ note_in c.args.note.now =
-    λ i. record (c.head_from-head.ensures i) { receivers = c.rows_from-rows.ensures i } in
+    λ i. record (c.head_from-head.ensures i) { receivers = c.rows_from-rows.ensures.rows i } in
     absurd (cc (c.if-not-follows_rules.true, c.follows_rules.ensures.1 (subst FollowsRules (sym one ∙ sym whole ∙ ap (λ (l : List ReceiverRow). distributor_note c.head_from-head.result l) (sym c.as_slice.ensures.value)) h.rules)))
 
 pub returns-clause-read : goal.returns-clause-read
 returns-clause-read c =
     let whole : distributor_note c.head_from-head.result c.rows_from-rows.result.items ≡ note_in c.args.note.now =
-    λ i. record (c.head_from-head.ensures i) { receivers = c.rows_from-rows.ensures i } in
+    λ i. record (c.head_from-head.ensures i) { receivers = c.rows_from-rows.ensures.rows i } in
     record {
       spelled = subst (λ (m : DistributorNote). SpellsDistributor m c.args.note.now) (sym whole) (c.is_spelled.ensures.0 c.if-not-is_spelled.false);
       rules = subst (λ (l : List ReceiverRow). FollowsRules (distributor_note c.head_from-head.result l)) c.as_slice.ensures.value (c.follows_rules.ensures.0 c.if-not-follows_rules.false);

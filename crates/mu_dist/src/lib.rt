@@ -1,0 +1,9 @@
+//! A distributor over flash: how one is made.
+#![tactic(auto)]
+
+mod making;
+#[cfg(test)]
+mod tests;
+
+pub use making::make_distributor;
+pub use mu_store::{Stopped, StoreFault};
