@@ -11,10 +11,10 @@ use Rattle.mu_model_distributor.specs.Receivers.{is_stored_in}
 use Rattle.mu_model_distributor_laws.specs.Laws.{NewIsSound}
 use Rattle.mu_model_represents.specs.Images.{IsSealed}
 use Rattle.mu_model_represents.specs.Laws.{RepresentedIsAState}
-use Rattle.mu_model_represents.specs.Numbers.{HasDistributorNumbers}
-use Rattle.mu_model_represents.specs.RepresentsDistributor.{IsDistributor, note_of_distributor, part_of_upload}
+use Rattle.mu_model_represents_distributor.specs.Numbers.{HasDistributorNumbers}
+use Rattle.mu_model_represents_distributor.specs.RepresentsDistributor.{IsDistributor, note_of_distributor, part_of_upload}
 use Rattle.mu_model_represents.specs.StoreStates.{IsStoreState}
-use Rattle.mu_model_represents.specs.Written.{KeepsDistributor, DistributorTagIsReadBack}
+use Rattle.mu_model_represents_distributor.specs.Written.{KeepsDistributor, DistributorTagIsReadBack}
 use Rattle.mu_store.specs.View.{store_flash, StoreHolds}
 use Rattle.mu_store.specs.declared.store.Store.{Store}
 use Rattle.mu_dist.specs.Made.{new_tag, RepresentsBy}

@@ -7,7 +7,7 @@ use Rattle.mu_model_record.specs.Store.{StoreState}
 use Rattle.mu_model_record.specs.Turns.{Anything}
 use Rattle.mu_model_distributor.specs.DistEvents.{new_distributor}
 use Rattle.mu_model_distributor.specs.DistState.{DistDurable}
-use Rattle.mu_model_represents.specs.RepresentsDistributor.{IsDistributor, distributor_tag}
+use Rattle.mu_model_represents_distributor.specs.RepresentsDistributor.{IsDistributor, distributor_tag}
 
 -- the tag of a new distributor, however many pages its banks have
 abbrev pub new_tag : List ℕ

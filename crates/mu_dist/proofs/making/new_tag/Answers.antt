@@ -1,8 +1,8 @@
 use Rattle.std.proofs.Common.{◌∙◌, ◌++◌, ℕ, List, ap}
 use Rattle.mu_model_record.specs.Record.{zeros}
 use Rattle.mu_model_distributor.specs.DistEvents.{new_distributor}
-use Rattle.mu_model_represents.specs.DistributorNote.{distributor_octets}
-use Rattle.mu_model_represents.specs.RepresentsDistributor.{note_of_distributor}
+use Rattle.mu_model_represents_distributor.specs.DistributorNote.{distributor_octets}
+use Rattle.mu_model_represents_distributor.specs.RepresentsDistributor.{note_of_distributor}
 use Rattle.mu_dist.proofs.making.new_tag.Goals as goal
 
 pub returns : goal.returns
