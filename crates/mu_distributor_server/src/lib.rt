@@ -1,0 +1,13 @@
+//! A distributor over a flash (MshDFU, Firmware Distribution Server; in this profile): its boot, what it shows, and its requests on receivers,
+//! images and uploads. Each that changes what is kept writes one record before it is answered.
+#![tactic(auto)]
+
+mod booting;
+mod distributor;
+mod judging;
+mod plugging;
+mod readers;
+
+pub use distributor::Distributor;
+pub use mu_distributor_memory::{DistRequest, ReceiverRow, UploadPhase};
+pub use mu_store::{BootFail, BootWhy, StoreFault};
