@@ -1,5 +1,5 @@
 -- What a boot of a node gives.
-use Rattle.std.proofs.Common.{◌≡◌, ◌∙◌, ℕ, List, refl, sym, ap, subst, inl, inr}
+use Rattle.std.proofs.Common.{◌≡◌, ℕ, List, refl, sym, subst, inl, inr}
 use Rattle.std.specs.Prelude.{Result, Ok, Err, IfOk, IfErr, OnErr, MatchResult}
 use Rattle.mu_model_flash.specs.Flash.{Seen}
 use Rattle.mu_model_record.specs.declared.Record.{Record}

@@ -2,3 +2,4 @@ pub mod Shown
 pub mod Booted
 pub mod Looked
 pub mod Plugged
+pub mod Judged

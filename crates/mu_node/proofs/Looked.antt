@@ -1,5 +1,5 @@
 -- What the rows look at, beside a state that is shown.
-use Rattle.std.proofs.Common.{◌≡◌, ◌∙◌, ℕ, ◌+◌, cond, Bool, true, false, List, [], ◌∷◌, Option, Some, None, map, refl, sym, ap, subst}
+use Rattle.std.proofs.Common.{◌≡◌, ◌∙◌, ℕ, ◌+◌, cond, Bool, true, false, List, [], ◌∷◌, Option, Some, None, refl, sym, ap, subst}
 use Rattle.std.specs.Prelude.{◌&&◌, is_some, if◌then◌else◌}
 use Rattle.std.specs.List.{list_all, count_by}
 use Rattle.std.specs.Option.{option_map}
@@ -9,7 +9,7 @@ use Rattle.mu_model_node.specs.declared.Parameters.{Parameters}
 use Rattle.mu_model_node.specs.declared.Stored.{Stored}
 use Rattle.mu_model_node.specs.declared.Stored.TheVariants.{Filling as Coming, Verified, Refused, Applied}
 use Rattle.mu_model_node.specs.Slots.{Slots, is_full, received, held_count}
-use Rattle.mu_model_node.specs.BlobServer.{Serving, Whole, Lacking, Server, serving_of as serving_of_transfer, serving_by as serving_with_blocks}
+use Rattle.mu_model_node.specs.BlobServer.{Whole, Lacking, serving_of as serving_of_transfer, serving_by as serving_with_blocks}
 use Rattle.mu_blob_rows.specs.declared.looks.Serving.TheVariants.{Whole as WholeHere, Lacking as LackingHere}
 use Rattle.mu_model_node.specs.NodeState.{Job, NodeState}
 use Rattle.mu_model_serving.specs.Laws.{serving_alone, server_alone}
@@ -21,9 +21,7 @@ use Rattle.mu_model_represents.specs.BlobPart.{BankGoesWith, HasBlobRules}
 use Rattle.mu_model_represents.specs.RepresentsNode.{StoredGoesWith, HasNodeJob}
 use Rattle.mu_model_shown_node.specs.Shown.{job_with, IsNodeMemory, FullIsShown}
 use Rattle.mu_update_rows.specs.Looks.{there, look_at}
-use Rattle.mu_update_rows.specs.declared.look.JobLook.{JobLook}
 use Rattle.mu_blob_rows.specs.Looks.{serving_with, transfer_with}
-use Rattle.mu_blobsrv.specs.declared.server.BlobServer.{BlobServer}
 use Rattle.mu_blobsrv.specs.Views.{store_of, server_of}
 use Rattle.mu_place.specs.declared.place.Place.{Place}
 use Rattle.mu_place.specs.Place.{place_record, place_held}

@@ -1,5 +1,5 @@
 -- A node whose flash alone is another.
-use Rattle.std.proofs.Common.{◌≡◌, ◌∙◌, ℕ, Bool, List, Option, Some, None, refl, sym, ap, subst}
+use Rattle.std.proofs.Common.{◌≡◌, ◌∙◌, Option, Some, None, refl, sym, ap, subst}
 use Rattle.std.specs.Option.{option_map}
 use Rattle.mu_model_flash.specs.Flash.{Seen}
 use Rattle.mu_model_record.specs.Record.{entry_of}
@@ -13,7 +13,7 @@ use Rattle.mu_note.specs.Views.{part_job, node_note}
 use Rattle.mu_place.specs.declared.place.Place.{Place}
 use Rattle.mu_place.specs.Place.{PlaceHolds, IsSamePlace}
 use Rattle.mu_kept.specs.Calls.{IsSameStore}
-use Rattle.mu_kept.specs.Views.{flags_of, flags_with, part_in}
+use Rattle.mu_kept.specs.Views.{flags_of, flags_with}
 use Rattle.mu_blobsrv.specs.declared.server.BlobServer.{BlobServer}
 use Rattle.mu_blobsrv.specs.Views.{store_of, place_of, session_of}
 use Rattle.mu_node.specs.declared.node.Node.{Node}

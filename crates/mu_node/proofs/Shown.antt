@@ -1,8 +1,7 @@
 -- What a node's flash represents is what the node has in memory.
-use Rattle.std.proofs.Common.{◌≡◌, ◌∙◌, ℕ, Bool, List, [], Option, Some, None, refl, sym, ap, subst}
-use Rattle.mu_model_flash.specs.Flash.{Seen}
+use Rattle.std.proofs.Common.{◌≡◌, ◌∙◌, Option, Some, None, refl, sym, ap, subst}
 use Rattle.mu_model_record.specs.Store.{StoreState}
-use Rattle.mu_model_node.specs.Slots.{Slots, received}
+use Rattle.mu_model_node.specs.Slots.{received}
 use Rattle.mu_model_node.specs.NodeState.{NodeDurable}
 use Rattle.mu_model_represents.specs.BlobPart.{BlobJob}
 use Rattle.mu_model_represents.specs.RepresentsNode.{IsNodeRecord, IsNode, IsNodeOf}
@@ -12,9 +11,9 @@ use Rattle.mu_note.specs.declared.node.NodeNote.{NodeNote as NoteHere}
 use Rattle.mu_note.specs.Views.{node_note}
 use Rattle.mu_kept.specs.Shows.{held_in}
 use Rattle.mu_kept.specs.Views.{part_in, flags_in}
-use Rattle.mu_place.specs.Place.{place_record, PlaceHolds}
+use Rattle.mu_place.specs.Place.{place_record}
 use Rattle.mu_blobsrv.specs.declared.server.BlobServer.{BlobServer}
-use Rattle.mu_blobsrv.specs.Views.{store_of, place_of, fault_of}
+use Rattle.mu_blobsrv.specs.Views.{store_of, place_of}
 use Rattle.mu_node.specs.Rules.{GoesWith}
 use Rattle.mu_node.specs.Memory.{memory_with}
 

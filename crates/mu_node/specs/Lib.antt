@@ -2,5 +2,4 @@ pub mod Rules
 pub mod Memory
 pub mod Views
 pub mod Readings
-pub mod Ways
 pub mod Boots

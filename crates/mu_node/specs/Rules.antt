@@ -1,5 +1,5 @@
 -- The note that a node has in memory goes with the present record (this profile).
-use Rattle.std.specs.Prelude.{◌≡◌, ℕ, Bool, false, List, [], ◌∷◌, Option, Some, None}
+use Rattle.std.specs.Prelude.{◌≡◌, ℕ, List, [], ◌∷◌, Option, Some, None}
 use Rattle.std.specs.List.{AllByRecursion}
 use Rattle.std.proofs.Common.{◌⊎◌, inl, inr, ap, arith}
 use Rattle.std.proofs.Props.{props}
@@ -16,7 +16,7 @@ use Rattle.mu_model_node.specs.declared.Stored.TheVariants.{Filling as Coming, V
 use Rattle.mu_model_represents.specs.BlobPart.{BlobJob, note_part}
 use Rattle.mu_model_represents.specs.Images.{IsSealed, AllDiffer}
 use Rattle.mu_model_represents.specs.NodeNote.{NoteJob, NodeNote, HasNoteJob, SpellsActive, SpellsNote, SpellsOldNote, IsNodeNote}
-use Rattle.mu_model_represents.specs.RepresentsNode.{IsNewerThan, IsNewerThanBank, StoredGoesWith, IsNodeJob, HasNodeJob}
+use Rattle.mu_model_represents.specs.RepresentsNode.{IsNewerThan, IsNewerThanBank, StoredGoesWith, HasNodeJob}
 use Rattle.mu_note.specs.declared.node.NodeNote.{NodeNote as NoteHere}
 use Rattle.mu_note.specs.Views.{node_note}
 use Rattle.mu_blobsrv.specs.declared.server.BlobServer.{BlobServer}
@@ -30,6 +30,10 @@ pub record GoesWith (r : Record) (part : Option BlobJob) (note : NodeNote) : Typ
   pub differ : AllDiffer note.active
   pub are_sealed : AllByRecursion (λ (b : ℕ). IsSealed (entry_of r b)) note.active
   pub job : HasNodeJob r note.active part note.job
+
+-- those that the octets of its tag don't say
+abbrev pub HasRules : Record → Option BlobJob → NodeNote → Type 0
+HasRules r part note = AllDiffer note.active × AllByRecursion (λ (b : ℕ). IsSealed (entry_of r b)) note.active × HasNodeJob r note.active part note.job
 
 -- so it is where no fault is kept
 abbrev pub HasItsNote : {F : Type 0} {g : _} → BlobServer F g → NoteHere → Type 0

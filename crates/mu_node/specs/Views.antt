@@ -1,5 +1,5 @@
 -- What callers see of a node over flash: which states of the model's node it shows, and which its flash represents (this profile).
-use Rattle.std.specs.Prelude.{◌≡◌, ℕ, List, Option}
+use Rattle.std.specs.Prelude.{◌≡◌, ℕ, Option}
 use Rattle.mu_model_flash.specs.Flash.{Seen}
 use Rattle.mu_model_record.specs.Store.{StoreState}
 use Rattle.mu_model_node.specs.declared.NodeConfig.{NodeConfig}

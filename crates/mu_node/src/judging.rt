@@ -11,7 +11,7 @@ ghost use Rattle.mu_note.specs.Views.{active_banks, note_job, node_note};
 ghost use Rattle.mu_place.specs.Place.{place_record};
 ghost use Rattle.mu_kept.specs.Views.{job_in, part_in, expect_of, has_parameters};
 ghost use Rattle.mu_blobsrv.specs.Views.{store_of, place_of, fault_of};
-ghost use Rattle.mu_node.specs.Rules.{GoesWith};
+ghost use Rattle.mu_node.specs.Rules.{GoesWith, HasRules};
 
 use mu_blobsrv::{BankState, BlobServer, Expect};
 use mu_image::Meta;
@@ -153,7 +153,16 @@ fn jobs_go_together<F: Flash>(server: &BlobServer<F>, note: &NodeNote) -> bool
     }
 }
 
+// Whether a note goes with the banks and the BLOB part of the present record. No fault is kept.
+fn goes_with<F: Flash>(server: &BlobServer<F>, note: &NodeNote) -> bool
+    requires { fault_of server.now ≡ None }
+    ensures { IsTrue result ↔ HasRules (place_record (place_of server.now)) (part_in (store_of server.now)) (node_note note.now) }
+{
+    are_different(note.active) && are_sealed(server, note.active) && jobs_go_together(server, note)
+}
+
 // What the note of the present record says, where that is a node's by every rule. No fault is kept.
+#[tactic(auto, using(crate::proofs::Judged::no_rules))]
 pub(crate) fn note_in<F: Flash>(server: &BlobServer<F>) -> Option<NodeNote>
     requires { fault_of server.now ≡ None }
     ensures some { IfSome result (λ note. GoesWith (place_record (place_of server.now)) (part_in (store_of server.now)) (node_note note)) }
@@ -162,12 +171,9 @@ pub(crate) fn note_in<F: Flash>(server: &BlobServer<F>) -> Option<NodeNote>
     server.known();
     blob_parts();
     node_is_read();
-    let note = match node_note_from(server.banks(), server.note()) {
-        Ok(note) => note,
-        Err(_) => return None,
-    };
-    let goes_with = are_different(note.active)
-        && are_sealed(server, note.active)
-        && jobs_go_together(server, &note);
-    if goes_with { Some(note) } else { None }
+    match node_note_from(server.banks(), server.note()) {
+        Err(_) => None,
+        Ok(note) if goes_with(server, &note) => Some(note),
+        Ok(_) => None,
+    }
 }

@@ -8,7 +8,6 @@ mod looking;
 mod node;
 mod plugging;
 mod readers;
-mod ways;
 
 pub use mu_blobsrv::{BootFail, BootWhy};
 pub use mu_model_node::NodeConfig;
