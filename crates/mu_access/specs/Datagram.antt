@@ -4,14 +4,7 @@ use Rattle.byteorder.specs.Endian.{little_bytes, little_number}
 use Rattle.mu_model_wire.specs.declared.Refusal.{Refusal}
 use Rattle.mu_model_wire.specs.declared.Why.TheVariants.{Short, Value, Long}
 use Rattle.mu_model_wire.specs.Reading.{refuse}
-use Rattle.mu_model_wire.specs.Packet.{Packet}
-
--- unicast addresses, and group addresses (Mesh Protocol, Addresses)
-abbrev pub is_unicast : ℕ → Bool
-is_unicast address = nat_le 0x0001 address && nat_le address 0x7FFF
-
-abbrev pub is_group : ℕ → Bool
-is_group address = nat_le 0xC000 address && nat_le address 0xFFFF
+use Rattle.mu_model_wire.specs.Packet.{Packet, is_unicast, is_group}
 
 -- the octets that a datagram begins with
 abbrev pub mark : List ℕ

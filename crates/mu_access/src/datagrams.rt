@@ -2,11 +2,11 @@ ghost use Rattle.std.specs.Prelude.{◌≡◌, ◌≤◌, ◌+◌, ◌++◌, Ok,
 ghost use Rattle.arrayvec.specs.ArrayVec.{array_vec_len};
 ghost use Rattle.mu_model_wire.specs.Reading.{Gives};
 ghost use Rattle.mu_codec.specs.View.{packet_of};
-ghost use Rattle.mu_access.specs.Datagram.{is_unicast, is_group, mark, datagram_spelling, CanTravel, first_difference, addressed_at, datagram_at};
+ghost use Rattle.mu_access.specs.Datagram.{mark, datagram_spelling, CanTravel, first_difference, addressed_at, datagram_at};
 
 use arrayvec::ArrayVec;
 use byteorder::{ByteOrder, LittleEndian};
-use mu_codec::{Packet, Payload, Refusal, Why, put_octets};
+use mu_codec::{Packet, Payload, Refusal, Why, is_group, is_unicast, put_octets};
 
 /// The octets that carry a packet over a link. Its payload isn't empty, `from` is a unicast address, and `to` is a
 /// unicast or a group address.
@@ -114,16 +114,4 @@ fn value(at: u16) -> Refusal
         at,
         why: Why::Value,
     }
-}
-
-fn is_unicast(address: u16) -> bool
-    ensures { result ≡ is_unicast address }
-{
-    address >= 0x0001 && address <= 0x7FFF
-}
-
-fn is_group(address: u16) -> bool
-    ensures { result ≡ is_group address }
-{
-    address >= 0xC000
 }

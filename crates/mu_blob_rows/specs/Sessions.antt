@@ -1,5 +1,6 @@
 -- A session in memory as the model's, and what a row makes of it.
 use Rattle.std.specs.Prelude.{ℕ, Option, Some, None}
+pub use Rattle.mu_model_node.specs.There.{there}
 use Rattle.mu_model_image.specs.Pieces.{block_length, chunk_count}
 use Rattle.mu_model_node.specs.declared.Parameters.{Parameters}
 use Rattle.mu_model_node.specs.Slots.{empty}
@@ -10,10 +11,6 @@ use Rattle.mu_blob_rows.specs.declared.session.LinkChange.{LinkChange}
 use Rattle.mu_blob_rows.specs.declared.session.LinkChange.TheVariants.{Keeps, Hears, Links, Unlinks}
 use Rattle.mu_blob_rows.specs.declared.session.SessionChange.{SessionChange}
 use Rattle.mu_blob_rows.specs.declared.session.SessionChange.TheVariants.{Link, Holds, Opens}
-
-abbrev pub there : {A B : Type 0} → (A → B) → Option A → Option B
-there f None = None
-there f (Some a) = Some (f a)
 
 abbrev pub report_of : PullReportHere → PullReport
 report_of r = record { moment = r.moment; chunks = r.chunks.items }

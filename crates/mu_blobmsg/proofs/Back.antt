@@ -3,6 +3,7 @@ use Rattle.std.proofs.Common.{◌≡◌, ℕ, eqb, cond, List, [], ◌∷◌, �
 use Rattle.std.specs.Prelude.{unwrap_or}
 use Rattle.std.specs.Option.{option_or}
 use Rattle.std.specs.Borrow.{Bor}
+use Rattle.mu_codec.specs.Lent.{unplaced_there}
 use Rattle.mu_model_wire.specs.Fields.{Shown, number, octets as shown_octets, perhaps, Message}
 use Rattle.mu_model_wire.specs.Names.{mode, id, size, log, mtu, status, phase, blocks, chunk, octets, missing, format, block, chunk_size, bits, min_log, max_log, max_chunks, max_chunk_size, max_size, push, pull}
 use Rattle.mu_model_wire.specs.Reading.{value_of}
@@ -11,7 +12,7 @@ use Rattle.mu_model_wire.specs.Found.{number_of, octets_of, NumbersAreFound, Oct
 use Rattle.mu_model_wire.specs.declared.reports.Report.{Report}
 use Rattle.mu_model_wire.specs.declared.reports.Report.TheVariants.{All, Nothing, Bits, List as Listed}
 use Rattle.mu_blobmsg.specs.View.{view}
-use Rattle.mu_blobmsg.specs.Laws.{content, unplaced_there}
+use Rattle.mu_blobmsg.specs.Laws.{content}
 use Rattle.mu_blobmsg.specs.declared.message.BlobMsg.{BlobMsg}
 use Rattle.mu_blobmsg.specs.declared.message.BlobMsg.TheVariants.{TransferGet, TransferStart, TransferCancel, TransferStatus, BlockStart, BlockGet, BlobInformationGet, BlobInformationStatus, ChunkTransfer, BlockStatus, PartialBlockReport}
 

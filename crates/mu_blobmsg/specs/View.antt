@@ -1,5 +1,6 @@
 -- A message in memory as a plain message: what its fields show, without where lent octets lie.
 use Rattle.std.specs.Prelude.{ℕ, List, [], ◌∷◌, ◌++◌}
+use Rattle.mu_model_wire.specs.ReportFields.{format_of, bits_shown, list_shown}
 use Rattle.mu_model_wire.specs.Fields.{Shown, number, perhaps, Message}
 use Rattle.mu_model_wire.specs.Fields.{octets as shown_octets}
 use Rattle.mu_model_wire.specs.Names.{mode, id, size, log, mtu, status, phase, blocks, chunk, octets, missing, format, block, chunk_size, bits, min_log, max_log, max_chunks, max_chunk_size, max_size, push, pull}
@@ -8,21 +9,6 @@ use Rattle.mu_model_wire.specs.declared.reports.Report.{Report}
 use Rattle.mu_model_wire.specs.declared.reports.Report.TheVariants.{All, Nothing, Bits, List as Listed}
 use Rattle.mu_blobmsg.specs.declared.message.BlobMsg.{BlobMsg}
 use Rattle.mu_blobmsg.specs.declared.message.BlobMsg.TheVariants.{TransferGet, TransferStart, TransferCancel, TransferStatus, BlockStart, BlockGet, BlobInformationGet, BlobInformationStatus, ChunkTransfer, BlockStatus, PartialBlockReport}
-
--- the format of a report on the wire
-abbrev pub format_of : Report → ℕ
-format_of All = 0
-format_of Nothing = 1
-format_of (Bits os) = 2
-format_of (Listed ns) = 3
-
-abbrev pub bits_shown : Report → List Shown
-bits_shown (Bits os) = shown_octets bits os.items ∷ []
-bits_shown _ = []
-
-abbrev pub list_shown : Report → List (List Shown)
-list_shown (Listed ns) = shown_numbers missing ns.items
-list_shown _ = []
 
 abbrev pub view : BlobMsg → Message
 view TransferGet = record { opcode = 0x8300; fields = []; entries = [] }

@@ -7,7 +7,8 @@ ghost use Rattle.mu_model_wire.specs.Names.{missing};
 ghost use Rattle.mu_model_wire.specs.Reports.{shown_numbers};
 ghost use Rattle.mu_model_wire.specs.Spelling.{Fits, spelling, entries_spelling};
 ghost use Rattle.mu_model_wire.specs.Blob.{blob_rows};
-ghost use Rattle.mu_blobmsg.specs.View.{view, format_of};
+ghost use Rattle.mu_model_wire.specs.ReportFields.{format_of};
+ghost use Rattle.mu_blobmsg.specs.View.{view};
 
 use crate::message::BlobMsg;
 use mu_codec::{Payload, put_octets, put_u8, put_u16, put_u32, put_u64};

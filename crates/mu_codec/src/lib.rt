@@ -1,12 +1,14 @@
 //! Reads fields from a payload, and writes them into one.
 #![tactic(auto)]
 
+mod addresses;
 mod cursor;
 mod packet;
 mod put;
 #[cfg(test)]
 mod tests;
 
+pub use addresses::{is_group, is_unicast};
 pub use cursor::Cursor;
 pub use mu_model_wire::{Refusal, Why};
 pub use packet::{Outbox, Packet, Payload};

@@ -4,12 +4,13 @@ use Rattle.std.specs.Prelude.{unwrap_or}
 use Rattle.std.specs.Option.{option_or}
 use Rattle.std.specs.List.{All}
 use Rattle.std.specs.Borrow.{Bor}
+use Rattle.mu_codec.specs.Lent.{unplaced_there}
 use Rattle.mu_model_wire.specs.Fields.{Shown, number, octets, perhaps, Message}
 use Rattle.mu_model_wire.specs.Names.{address, index, status, count, first, limit, phase, update_status, transfer_status, progress, receivers, images, max_size, space, remaining, oob, schemes, appkey, ttl, base, mode, policy, image, label, group, id, size, metadata, fwid, uri, kind}
 use Rattle.mu_model_wire.specs.Reading.{value_of}
 use Rattle.mu_model_wire.specs.Found.{number_of, octets_of, NumbersAreFound, OctetsAreFound, OptionalNumberIsFound, OptionalNumberHasOneName}
 use Rattle.mu_distmsg.specs.View.{view, pair_shown, row_shown, RowIsEven, IsEven}
-use Rattle.mu_distmsg.specs.Laws.{content, unplaced_there}
+use Rattle.mu_distmsg.specs.Laws.{content}
 use Rattle.mu_distmsg.specs.declared.message.ReceiverRow.{ReceiverRow}
 use Rattle.mu_distmsg.specs.declared.message.DistMsg.{DistMsg}
 use Rattle.mu_distmsg.specs.declared.message.DistMsg.TheVariants.{ReceiversAdd, ReceiversDeleteAll, ReceiversStatus, ReceiversGet, ReceiversList, CapabilitiesGet, CapabilitiesStatus, DistributionGet, DistributionStart, DistributionSuspend, DistributionCancel, DistributionApply, DistributionStatus, UploadGet, UploadStart, UploadStartOob, UploadCancel, UploadStatus, FirmwareGet, FirmwareGetByIndex, FirmwareDelete, FirmwareDeleteAll, FirmwareStatus}

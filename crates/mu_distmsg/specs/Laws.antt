@@ -1,17 +1,9 @@
 -- A plain message tells all of the message in memory but where its lent octets lie.
-use Rattle.std.specs.Prelude.{◌≡◌, ℕ, List, Option, None, Some}
-use Rattle.std.specs.Borrow.{Bor}
+use Rattle.std.specs.Prelude.{◌≡◌}
+use Rattle.mu_codec.specs.Lent.{unplaced, unplaced_there}
 use Rattle.mu_distmsg.specs.View.{view, IsEven}
 use Rattle.mu_distmsg.specs.declared.message.DistMsg.{DistMsg}
 use Rattle.mu_distmsg.specs.declared.message.DistMsg.TheVariants.{ReceiversAdd, ReceiversDeleteAll, ReceiversStatus, ReceiversGet, ReceiversList, CapabilitiesGet, CapabilitiesStatus, DistributionGet, DistributionStart, DistributionSuspend, DistributionCancel, DistributionApply, DistributionStatus, UploadGet, UploadStart, UploadStartOob, UploadCancel, UploadStatus, FirmwareGet, FirmwareGetByIndex, FirmwareDelete, FirmwareDeleteAll, FirmwareStatus}
-
--- the same octets, as if they lay at one place
-abbrev pub unplaced : Bor (List ℕ) → Bor (List ℕ)
-unplaced lent = record { ref_ptr = (0, 0); now = lent.now }
-
-abbrev pub unplaced_there : Option (Bor (List ℕ)) → Option (Bor (List ℕ))
-unplaced_there None = None
-unplaced_there (Some lent) = Some (unplaced lent)
 
 -- the message, whatever the place of its lent octets is
 abbrev pub content : DistMsg → DistMsg

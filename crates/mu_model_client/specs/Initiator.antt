@@ -1,6 +1,7 @@
 -- An initiator: it uploads an image to a distributor, has it distributed, and gets the receivers' rows (MshDFU, Firmware
 -- Distribution Client; its steps and ends are this profile's).
 use Rattle.std.specs.Prelude.{ℕ, ◌+◌, ◌==◌, ◌&&◌, ◌||◌, not, max, nat_le, Bool, true, false, List, [], ◌∷◌, ◌++◌, length, map, take, Option, Some, None, if◌then◌else◌}
+use Rattle.mu_model_wire.specs.Limits.{most_receivers, most_rows}
 use Rattle.mu_model_image.specs.Meta.{meta_octets, firmware_id, own_company}
 use Rattle.mu_model_node.specs.NodeMessages.{Request}
 use Rattle.mu_model_wire.specs.Packet.{Packet}
@@ -111,13 +112,6 @@ start_asked plan image = record {
   group = plan.sending.group;
 }
 
--- rows of one Receivers List, and of a distributor in all
-abbrev pub list_limit : ℕ
-list_limit = 74
-
-abbrev pub most_rows : ℕ
-most_rows = 128
-
 -- none for the BLOB: its client has messages of its own
 abbrev pub init_message : Initiator → InitStep → Option InitiatorRequest
 init_message i Uploading = Some (UploadStart (upload_asked i.ask.plan))
@@ -129,7 +123,7 @@ init_message i Adding = Some (ReceiversAdd (map (λ address. (address, 0)) i.ask
 init_message i Finding = Some (FirmwareGet (firmware_id own_company i.ask.plan.meta))
 init_message i Starting = Some (DistributionStart (start_asked i.ask.plan i.image))
 init_message i Watching = Some DistributionGet
-init_message i Listing = Some (ReceiversGet (length i.rows) list_limit)
+init_message i Listing = Some (ReceiversGet (length i.rows) most_rows)
 
 -- the upload's transfer: by push without a group, log 12, chunks of 200
 abbrev pub upload_sending : Sending → Sending
@@ -173,10 +167,10 @@ on_watching i began phase = if has_finished i.ask.plan phase then then_does List
 
 -- 10 Receivers Get: the rows are added until all are had
 abbrev pub with_rows : Initiator → List Row → Initiator
-with_rows i rows = record i { rows = take most_rows (i.rows ++ rows) }
+with_rows i rows = record i { rows = take most_receivers (i.rows ++ rows) }
 
 abbrev pub has_all : ℕ → ℕ → Bool
-has_all count had = nat_le count had || nat_le most_rows had
+has_all count had = nat_le count had || nat_le most_receivers had
 
 abbrev pub brought : Initiator → List Row → Initiator
 brought i [] = i

@@ -1,6 +1,7 @@
 -- The numbers and sets that a client keeps, within their bounds.
 use Rattle.std.specs.Prelude.{ℕ, ◌≡◌, ◌≤◌, ◌<◌, ◌⊎◌, Bool, true, List, [], length}
 use Rattle.std.specs.List.{AllByRecursion}
+pub use Rattle.mu_model_client.specs.Places.{StepFits}
 use Rattle.mu_model_client.specs.declared.Sending.{Sending}
 use Rattle.mu_model_client.specs.declared.Plan.{Plan}
 use Rattle.mu_model_client.specs.declared.Stage.{Stage}
@@ -13,14 +14,6 @@ use Rattle.mu_model_client.specs.Due.{due}
 use Rattle.mu_model_client_laws.specs.Laws.{IsSound}
 
 -- ---- blocks
-
--- a step about a block is about one of the BLOB
-abbrev pub StepFits : Sending → Step → Type 0
-StepFits p (Block b) = b < block_total p
-StepFits p (Chunks b) = b < block_total p
-StepFits p (Pull b) = b < block_total p
-StepFits p (Get b) = b < block_total p
-StepFits p _ = Unit {0}
 
 abbrev pub PlaceFits : Sending → Place → Type 0
 PlaceFits p (Before step) = StepFits p step

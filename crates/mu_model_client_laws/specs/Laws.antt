@@ -1,6 +1,7 @@
 -- What holds of every client.
 use Rattle.std.specs.Prelude.{ℕ, ◌≡◌, ◌≤◌, ◌<◌, ◌+◌, ◌⊎◌, ◌==◌, ◌&&◌, max, Bool, true, false, List, [], ◌∷◌, ◌++◌, length, map, filter, take, drop, Some, if◌then◌else◌, ⊤, is_some}
 use Rattle.std.specs.List.{list_any, flat_map, AllByRecursion}
+pub use Rattle.mu_model_client.specs.Places.{Each}
 use Rattle.mu_model_image.specs.declared.Meta.{Meta}
 use Rattle.mu_model_image.specs.Meta.{firmware_id, own_company}
 use Rattle.mu_model_node.specs.NodeMessages.{Request}
@@ -18,12 +19,6 @@ use Rattle.mu_model_client.specs.Begin.{start, start_blob, resume, take_apply, t
 use Rattle.mu_model_client.specs.Told.{is_present, told}
 use Rattle.mu_model_client.specs.Lists.{chunk_items, lacks_chunk, missing_of, sent_for}
 use Rattle.mu_model_client.specs.Due.{Due, due, silent_after, fell_silent, is_empty}
-
--- R holds of the receivers at each place, and there are as many
-abbrev pub Each : (Receiver → Receiver → Type 0) → List Receiver → List Receiver → Type 0
-Each R [] [] = ⊤
-Each R (x ∷ xs) (y ∷ ys) = R x y × Each R xs ys
-Each R _ _ = ⊥
 
 -- ---- what stays
 

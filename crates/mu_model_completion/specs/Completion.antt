@@ -1,6 +1,8 @@
 -- How many turns an update takes in which nothing is lost.
 use Rattle.std.specs.Prelude.{ℕ, ◌≡◌, ◌≢◌, ◌<◌, ◌≤◌, ◌+◌, ◌-◌, ◌*◌, ◌^◌, ◌⊎◌, ◌==◌, true, false, List, [], ◌∷◌, length, map, Option, Some, None, if◌then◌else◌}
 use Rattle.std.specs.List.{AllByRecursion}
+use Rattle.mu_model_wire.specs.Limits.{most_chunk, most_receivers}
+pub use Rattle.mu_model_client.specs.Places.{NoneTwice}
 use Rattle.mu_model_image.specs.Meta.{Image, IsMeta, IsFit, image_of}
 use Rattle.mu_model_image.specs.Pieces.{piece_count}
 use Rattle.mu_model_node.specs.declared.NodeConfig.{NodeConfig}
@@ -68,7 +70,7 @@ pub record IsUpdate (plan : Plan) (image : List ℕ) : Type 0 where
   pub log_least : 12 ≤ plan.sending.log
   pub log_most : plan.sending.log ≤ 14
   pub chunk_least : 8 ≤ plan.sending.chunk
-  pub chunk_most : plan.sending.chunk ≤ 376
+  pub chunk_most : plan.sending.chunk ≤ most_chunk
   pub size : plan.sending.size ≡ plan.meta.size
   pub meta : IsMeta plan.meta
   pub fit : IsFit image plan.meta
@@ -96,11 +98,6 @@ pub record Takes (plan : Plan) (members : List Member) (a : ℕ) : Type 0 where
   pub can : CanTake plan config state
   pub unicast : a < 0x8000
 
--- no address stands twice
-abbrev pub NoneTwice : List ℕ → Type 0
-NoneTwice [] = Unit {0}
-NoneTwice (a ∷ rest) = AllByRecursion (λ b. a ≢ b) rest × NoneTwice rest
-
 -- an updater that has had no event, among members of which each receiver takes the update and the others are quiet
 pub record CanBegin (plan : Plan) (image : List ℕ) (to : List ℕ) (members : List Member) : Type 0 where
   pub update : IsUpdate plan image
@@ -111,7 +108,7 @@ pub record CanBegin (plan : Plan) (image : List ℕ) (to : List ℕ) (members : 
   pub distinct : Distinct members
   pub quiet : AllQuiet config.address members
   pub some : 1 ≤ length to
-  pub few : length to ≤ 128
+  pub few : length to ≤ most_receivers
   pub none_twice : NoneTwice to
   pub takes : AllByRecursion (Takes plan members) to
 

@@ -1,5 +1,6 @@
 -- A distributor: what it keeps over a power cut, and what it has while it runs (MshDFU, Firmware Distribution Server states).
-use Rattle.std.specs.Prelude.{ℕ, ◌+◌, ◌*◌, ◌^◌, Bool, true, false, List, [], ◌∷◌, map, Option, Some, None, slice_get}
+use Rattle.std.specs.Prelude.{ℕ, ◌+◌, ◌*◌, ◌^◌, Bool, true, false, List, [], ◌∷◌, ◌++◌, map, Option, Some, None, slice_get}
+use Rattle.byteorder.specs.Endian.{little_bytes}
 use Rattle.mu_model_image.specs.declared.Meta.{Meta}
 use Rattle.mu_model_image.specs.Meta.{Image}
 use Rattle.mu_model_node.specs.BlobServer.{Transfer, Session, Serving, NoJob, serving_of, Server}
@@ -25,6 +26,10 @@ pub record Receiver : Type 0 where
   pub phase : ℕ
   pub update_status : ℕ
   pub transfer_status : ℕ
+
+-- a receiver in a record (this profile)
+abbrev pub receiver_octets : Receiver → List ℕ
+receiver_octets r = little_bytes 2 r.address ++ (r.index ∷ r.phase ∷ r.update_status ∷ r.transfer_status ∷ [])
 
 -- an image that comes, and the bank that takes it
 pub record UploadJob : Type 0 where

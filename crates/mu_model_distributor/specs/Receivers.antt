@@ -2,6 +2,7 @@
 -- behavior; limits and statuses as this profile sets them).
 use Rattle.std.specs.Prelude.{ℕ, ◌*◌, ◌/◌, ◌==◌, min, nat_lt, not, Bool, true, false, ◌&&◌, ◌||◌, List, [], ◌∷◌, ◌++◌, Option, Some, None, Result, Ok, Err, if◌then◌else◌, length, take, drop, map, is_some}
 use Rattle.std.specs.List.{list_any, filter}
+pub use Rattle.mu_model_wire.specs.Statuses.{success, wrong_phase}
 use Rattle.mu_model_distributor.specs.Requests.{Entry}
 use Rattle.mu_model_client.specs.Rows.{Row, phase_unknown}
 use Rattle.mu_model_distributor.specs.Replies.{DistReply, ReceiversStatus, ReceiversList, CapabilitiesStatus, most_receivers, most_rows}
@@ -9,14 +10,8 @@ use Rattle.mu_model_distributor.specs.DistState.{StoredImage, Receiver, UploadJo
 
 -- ---- statuses (MshDFU, Status)
 
-abbrev pub success : ℕ
-success = 0
-
 abbrev pub insufficient_resources : ℕ
 insufficient_resources = 1
-
-abbrev pub wrong_phase : ℕ
-wrong_phase = 2
 
 abbrev pub internal_error : ℕ
 internal_error = 3

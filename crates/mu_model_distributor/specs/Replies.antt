@@ -1,5 +1,6 @@
 -- The answers of a Firmware Distribution Server, and how each stands on the wire (MshDFU, Firmware Distribution messages).
 use Rattle.std.specs.Prelude.{ℕ, ◌*◌, ◌/◌, List, [], ◌∷◌, map, Option, Some, None}
+pub use Rattle.mu_model_wire.specs.Limits.{most_receivers, most_rows}
 use Rattle.mu_model_wire.specs.Fields.{Shown, number, octets, perhaps, Message}
 use Rattle.mu_model_wire.specs.Names.{address, index, status, count, first, phase, update_status, transfer_status, progress, receivers, images, max_size, space, remaining, oob, schemes, appkey, ttl, base, mode, policy, image, group, fwid, kind}
 use Rattle.mu_model_distributor.specs.Requests.{Settings}
@@ -24,15 +25,8 @@ pub data DistReply : Type 0 where
 
 -- ---- limits (this profile)
 
-abbrev pub most_receivers : ℕ
-most_receivers = 128
-
 abbrev pub most_images : ℕ
 most_images = 4
-
--- rows of a Receivers List
-abbrev pub most_rows : ℕ
-most_rows = 74
 
 -- ---- on the wire
 

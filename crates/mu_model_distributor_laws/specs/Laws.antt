@@ -2,6 +2,8 @@
 use Rattle.std.specs.Prelude.{ℕ, ◌≡◌, ◌≤◌, ◌+◌, ◌⊎◌, ◌↔◌, ◌==◌, not, List, [], ◌∷◌, ◌++◌, length, drop, Option, Some, None, MatchOption}
 use Rattle.std.specs.List.{AllByRecursion, list_any}
 use Rattle.byteorder.specs.Endian.{little_bytes}
+pub use Rattle.mu_model_node.specs.Laws.{pages_put}
+use Rattle.mu_model_distributor.specs.DistState.{receiver_octets}
 use Rattle.mu_model_wire.specs.Laws.{AreOctets}
 use Rattle.mu_model_image.specs.Meta.{Image, IsMeta}
 use Rattle.mu_model_node.specs.declared.FlashWork.{FlashWork}
@@ -84,11 +86,6 @@ WorkLeadsToTheNew =
     (address : ℕ) (s : DistState) (event : NodeEvent) (now : ℕ) → EventFits event → IsDistState s
     → left_after address s event now (length (dist_work address s event now)) ≡ (dist_step address s event now).next.durable
 
--- the pages of the block that is put
-abbrev pub pages_put : FlashWork → ℕ
-pages_put (PutBlock pages) = pages
-pages_put _ = 0
-
 -- an event costs at most the pages of a block and 5 operations; a block has at most 4 pages
 abbrev pub WorkIsBounded : Type 0
 WorkIsBounded =
@@ -120,10 +117,6 @@ StockedIsSound =
     → IsDistState (stocked s image)
 
 -- ---- long records
-
--- a receiver in a record (this profile)
-abbrev pub receiver_octets : Receiver → List ℕ
-receiver_octets r = little_bytes 2 r.address ++ (r.index ∷ r.phase ∷ r.update_status ∷ r.transfer_status ∷ [])
 
 abbrev pub receivers_octets : List Receiver → List ℕ
 receivers_octets [] = []

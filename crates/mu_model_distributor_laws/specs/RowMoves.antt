@@ -1,5 +1,6 @@
 -- How the rows of a distributor change: what the cause of each change is.
 use Rattle.std.specs.Prelude.{ℕ, ◌≡◌, ◌<◌, ◌+◌, true, false, List, [], ◌∷◌, map, Some, ⊤}
+pub use Rattle.mu_model_client.specs.Places.{Each}
 use Rattle.mu_model_node.specs.Events.{NodeEvent, PacketComes, TimeComes}
 use Rattle.mu_model_client.specs.Answers.{Answer}
 use Rattle.mu_model_client.specs.Rows.{Row, row_after, rank, transfer_canceled, apply_success, apply_failed}
@@ -14,12 +15,6 @@ use Rattle.mu_model_distributor.specs.DistEvents.{dist_step}
 use Rattle.mu_model_distributor.specs.Sound.{IsDistState}
 use Rattle.mu_model_distributor_laws.specs.Planned.{has_transfer, IsPlanned}
 use Rattle.mu_model_distributor_laws.specs.Laws.{EventFits}
-
--- R holds at each place, and there are as many
-abbrev pub Each : {A B : Type 0} → (A → B → Type 0) → List A → List B → Type 0
-Each R [] [] = ⊤
-Each R (x ∷ xs) (y ∷ ys) = R x y × Each R xs ys
-Each R _ _ = ⊥
 
 -- an event is a packet to the distributor that is this to it
 abbrev pub Says : ℕ → NodeEvent → ℕ → Taken → Type 0

@@ -1,6 +1,7 @@
 -- A distributor's rows say what its receivers told it of the present distribution, over whole runs.
 use Rattle.std.specs.Prelude.{ℕ, ◌≡◌, ◌==◌, ◌≤◌, ◌⊎◌, true, false, List, [], ◌∷◌, ◌++◌, Option, Some, if◌then◌else◌}
 use Rattle.std.specs.List.{AllByRecursion}
+pub use Rattle.mu_model_node.specs.Safe.{InOrder, none, here, later}
 use Rattle.mu_model_image.specs.declared.Meta.{Meta}
 use Rattle.mu_model_image.specs.Meta.{firmware_id, own_company}
 use Rattle.mu_model_node.specs.UpdateMessages.{ShownJob, InformationStatus, UpdateStatus}
@@ -54,12 +55,6 @@ heard_by address d CutPower = []
 abbrev pub heard_in : ℕ → DistState → List Happening → List Heard
 heard_in address s [] = []
 heard_in address s (h ∷ hs) = heard_by address s.durable h ++ heard_in address (happened address s h) hs
-
--- the first list stands in the second, in order, perhaps with others between
-pub data InOrder : List Heard → List Heard → Type 0 where
-  none : {heard : List Heard} → InOrder [] heard
-  here : {x : Heard} {xs heard : List Heard} → InOrder xs heard → InOrder (x ∷ xs) (x ∷ heard)
-  later : {y : Heard} {xs heard : List Heard} → InOrder xs heard → InOrder xs (y ∷ heard)
 
 -- ---- what a row says
 

@@ -2,6 +2,7 @@
 -- behavior; the order is this profile's). A request that is refused changes nothing.
 use Rattle.std.specs.Prelude.{◌≡◌, ◌≢◌, ℕ, ◌+◌, ◌-◌, ◌^◌, ◌==◌, nat_lt, nat_le, not, Bool, true, false, ◌&&◌, ◌||◌, List, [], ◌∷◌, ◌++◌, length, map, Option, Some, None, if◌then◌else◌, bytes_eq, is_none}
 use Rattle.std.specs.List.{list_any}
+use Rattle.mu_model_wire.specs.Limits.{most_receivers}
 use Rattle.mu_model_image.specs.declared.Meta.{Meta}
 use Rattle.mu_model_image.specs.Meta.{meta_octets, meta_from, firmware_id}
 use Rattle.mu_model_distributor.specs.declared.Settings.{Settings}
@@ -126,7 +127,7 @@ delete_rules s rules =
     ∷ rules
 
 abbrev pub rules_of : DistState → DistRequest → List Rule
-rules_of s (ReceiversAdd entries) = (not (phase_of s == 0), 7) ∷ (nat_lt 128 (receivers_after s entries), 1) ∷ []
+rules_of s (ReceiversAdd entries) = (not (phase_of s == 0), 7) ∷ (nat_lt most_receivers (receivers_after s entries), 1) ∷ []
 rules_of s ReceiversDeleteAll = (not (phase_of s == 0), 7) ∷ []
 rules_of s (DistributionStart ask) = start_rules s ask
 rules_of s DistributionSuspend = ((phase_of s == 1) || (phase_of s == 7), 0) ∷ (true, 2) ∷ []

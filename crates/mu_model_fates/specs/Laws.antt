@@ -1,5 +1,6 @@
 -- What the log of one node says over its whole run, whatever packets come, whatever time passes and whenever the power goes.
 use Rattle.std.specs.Prelude.{ℕ, ◌≡◌, ◌<◌, ◌≤◌, ◌⊎◌, List, [], ◌∷◌, ◌++◌, Option, Some, None, slice_get, Contains, IsTrue}
+pub use Rattle.mu_model_node.specs.Safe.{come_by, come_in}
 use Rattle.mu_model_image.specs.declared.Meta.{Meta}
 use Rattle.mu_model_image.specs.Meta.{Image, meta_from}
 use Rattle.mu_model_wire.specs.Packet.{Packet}
@@ -116,16 +117,6 @@ VerifiedIsHeld =
     → IsHeld s id index meta.version ⊎ CanceledSince id log)
 
 -- ---- what was offered
-
--- the packets that come, those of torn events too
-abbrev pub come_by : Happening → List Packet
-come_by (Done (PacketComes packet) now) = packet ∷ []
-come_by (Torn (PacketComes packet) now operations) = packet ∷ []
-come_by _ = []
-
-abbrev pub come_in : List Happening → List Packet
-come_in [] = []
-come_in (h ∷ hs) = come_by h ++ come_in hs
 
 -- the packet is addressed to the node, and is an Update Start with this BLOB ID that offers these metadata for the image of this index
 pub record IsOffer (config : NodeConfig) (packet : Packet) (id index : ℕ) (meta : Meta) : Type 0 where

@@ -1,5 +1,6 @@
 -- All that a flash means at a moment, as plain values (this profile's cut model).
 use Rattle.std.specs.Prelude.{◌≡◌, ℕ, ◌+◌, ◌-◌, ◌*◌, ◌^◌, ◌<◌, ◌≤◌, ◌↔◌, min, Bool, true, false, IsTrue, Option, Some, None, IfSome, List, [], length}
+use Rattle.mu_model_image.specs.Sizes.{page_octets}
 use Rattle.mu_model_flash.specs.declared.Armed.{Armed}
 use Rattle.mu_model_flash.specs.Bits.{AreOctets}
 use Rattle.mu_model_flash.specs.Patterns.{IsLeftBy}
@@ -38,7 +39,7 @@ IsBefore n armed = IfSome armed (λ a. n < a.number)
 
 -- octets of so many pages
 pub record IsImage (pages : ℕ) (c : List ℕ) : Type 0 where
-  pub size : length c ≡ 4096 * pages
+  pub size : length c ≡ page_octets * pages
   pub octets : AreOctets c
 
 -- what holds of every flash at every moment

@@ -1,3 +1,4 @@
+pub mod Sizes
 pub mod Meta
 pub mod Pieces
 pub mod Made

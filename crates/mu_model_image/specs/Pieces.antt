@@ -1,5 +1,5 @@
 -- Blocks and chunks as parts of a list (MshMBT: a BLOB is divided into blocks, a block into chunks).
-use Rattle.std.specs.Prelude.{ℕ, ◌+◌, ◌-◌, ◌*◌, ◌/◌, ◌^◌, List, length, map, min, slice_range}
+use Rattle.std.specs.Prelude.{ℕ, ◌+◌, ◌-◌, ◌*◌, ◌/◌, ◌^◌, List, [], ◌∷◌, ◌++◌, Option, Some, None, length, map, min, slice_range}
 use Rattle.std.specs.List.{range_with_len}
 
 -- piece i of octets that are cut into pieces of n: from i * n up to, not including, (i + 1) * n or the end
@@ -43,3 +43,9 @@ chunk_length length size j = piece_length length size j
 
 abbrev pub chunks_of : List ℕ → ℕ → List (List ℕ)
 chunks_of block size = pieces_of block size
+
+-- the octets of the pieces that are there, in order
+abbrev pub joined : List (Option (List ℕ)) → List ℕ
+joined [] = []
+joined (None ∷ pieces) = joined pieces
+joined (Some octets ∷ pieces) = octets ++ joined pieces

@@ -1,6 +1,7 @@
 -- What a distributor shows of a node was reached by the node.
 use Rattle.std.specs.Prelude.{ℕ, ◌≡◌, ◌≤◌, ◌⊎◌, List, [], ◌∷◌, ◌++◌, Option, Some, None, true}
 use Rattle.std.specs.List.{AllByRecursion}
+pub use Rattle.mu_model_node.specs.Safe.{come_by, come_in}
 use Rattle.mu_model_image.specs.declared.Meta.{Meta}
 use Rattle.mu_model_image.specs.Meta.{firmware_id, own_company}
 use Rattle.mu_model_wire.specs.Packet.{Packet}
@@ -24,16 +25,6 @@ use Rattle.mu_model_told.specs.Laws.{HasNumbers}
 use Rattle.mu_model_told.specs.Reached.{HappeningFits as NodeHappeningFits, WasReached, IdIsSafe, sent_in}
 
 -- ---- what comes from the node
-
--- the packets that come
-abbrev pub come_by : Happening → List Packet
-come_by (Done (PacketComes packet) now) = packet ∷ []
-come_by (Torn (PacketComes packet) now operations) = packet ∷ []
-come_by _ = []
-
-abbrev pub come_in : List Happening → List Packet
-come_in [] = []
-come_in (h ∷ hs) = come_by h ++ come_in hs
 
 -- one of them has these octets
 abbrev pub HasPayload : List ℕ → List Packet → Type 0

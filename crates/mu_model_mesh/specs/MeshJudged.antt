@@ -1,5 +1,6 @@
 -- What stands against a line of a script in a world with updaters and distributors.
 use Rattle.std.specs.Prelude.{ℕ, ◌+◌, ◌*◌, nat_le, nat_lt, ◌||◌, Bool, List, length, is_some, slice_get, Option, Some, None, Result, Ok, Err, if◌then◌else◌}
+use Rattle.mu_model_image.specs.Sizes.{page_octets}
 use Rattle.mu_model_wire.specs.Packet.{Packet}
 use Rattle.mu_model_node.specs.NodeMessages.{request_at}
 use Rattle.mu_model_distributor.specs.Receivers.{banks}
@@ -28,7 +29,7 @@ abbrev pub against_past : (token capacity : ℕ) → Content → Option Objectio
 against_past token capacity content = if nat_lt capacity (length (content_octets content)) then against token BadToken else None
 
 abbrev pub bank : (pages : ℕ) → ℕ
-bank pages = 4096 * pages
+bank pages = page_octets * pages
 
 -- at most 4 images in a distributor that is there, each of them within its bank
 abbrev pub against_image : Content → Option DistributorMember → Option Objection

@@ -15,7 +15,7 @@ use Rattle.mu_model_world.specs.World.{Member, config_of}
 use Rattle.mu_model_mesh.specs.Mesh.{UpdaterMember, Mesh, is_member}
 use Rattle.mu_model_packets.specs.Laws.{PacketFits}
 use Rattle.mu_model_mesh_safety.specs.Laws.{EveryWorldIsOfRuns}
-use Rattle.mu_model_mesh_safety.specs.Runs.{AreIn, NodeRun, UpdaterRun, AreOnce, IsOfRuns}
+use Rattle.mu_model_mesh_safety.specs.Runs.{AreIn, NodeRun, UpdaterRun, IsOfRuns}
 use Rattle.mu_model_completion.specs.Completion.{NoneTwice}
 use Rattle.mu_model_mesh_completion.specs.Laws.{WorldsOfScripts}
 use Rattle.mu_model_mesh_completion.specs.Settled.{IsNode, IsWorld}
@@ -79,10 +79,6 @@ sends_from plans bag address u r =
     ap (λ (s : Sending). s.from) own ∙ r.from
 
 -- ---- the order
-
-none_twice : (addresses : List ℕ) → AreOnce addresses → NoneTwice addresses
-none_twice [] h = tt
-none_twice (a ∷ addresses) h = (h.0, none_twice addresses h.1)
 
 later : (x y : Bool) → y ≡ true → (x || y) ≡ true
 later true y h = refl

@@ -1,6 +1,8 @@
 -- A world of a script whose updater is about to begin, and one in which its update is complete.
 use Rattle.std.specs.Prelude.{ℕ, ◌≡◌, ◌<◌, ◌≤◌, ◌⊎◌, ◌^◌, true, false, List, ◌∷◌, length, map, Option, Some, None}
 use Rattle.std.specs.List.{AllByRecursion}
+use Rattle.mu_model_wire.specs.Limits.{most_chunk, most_receivers}
+use Rattle.mu_model_image.specs.Sizes.{most_image}
 use Rattle.mu_model_image.specs.Meta.{Image}
 use Rattle.mu_model_node.specs.declared.LastBlock.{LastBlock}
 use Rattle.mu_model_node.specs.declared.Parameters.{Parameters}
@@ -68,12 +70,12 @@ pub record IsLine (line : UpdaterLine) : Type 0 where
   pub log_least : 12 ≤ line.log
   pub log_most : line.log ≤ 14
   pub chunk_least : 8 ≤ line.chunk
-  pub chunk_most : line.chunk ≤ 376
+  pub chunk_most : line.chunk ≤ most_chunk
   pub version : line.version < 2 ^ 32
   pub content_least : 1 ≤ length line.content
-  pub content_most : length line.content ≤ 1048576
+  pub content_most : length line.content ≤ most_image
   pub some : 1 ≤ length line.receivers
-  pub few : length line.receivers ≤ 128
+  pub few : length line.receivers ≤ most_receivers
   pub none_twice : NoneTwice line.receivers
 
 -- a receiver is a node without a job, whose first image has a lower version and whose bank holds the image; and it is in the

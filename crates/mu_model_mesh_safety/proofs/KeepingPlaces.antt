@@ -7,7 +7,7 @@ use Rattle.mu_model_wire.specs.Packet.{Packet}
 use Rattle.mu_model_script.specs.Ranges.{IsUnicast}
 use Rattle.mu_model_world.specs.World.{Member, Logged}
 use Rattle.mu_model_mesh.specs.Mesh.{UpdaterMember, DistributorMember, Mesh}
-use Rattle.mu_model_mesh_safety.specs.Runs.{AreOnce, AreApart}
+use Rattle.mu_model_mesh_safety.specs.Runs.{NoneTwice, AreApart}
 use Rattle.mu_model_mesh_safety.proofs.KeepingLists.{all_append, Yes, No, are_same, none_from, added, added_none, added_other, added_here, SamePlaces, stays_none}
 
 -- ---- an order, and one address more
@@ -34,10 +34,10 @@ others_differ (first ∷ order) a free =
       | No other ↦ λ e. ((λ here. other (sym here)), others_differ order a e)
     ] free
 
-pub once_more : (order : List ℕ) (a : ℕ) → list_any (nat_eq a) order ≡ false → AreOnce order → AreOnce (order ++ a ∷ [])
+pub once_more : (order : List ℕ) (a : ℕ) → list_any (nat_eq a) order ≡ false → NoneTwice order → NoneTwice (order ++ a ∷ [])
 once_more order a free once = all_once order a (others_differ order a free) once
   where
-    all_once : (order : List ℕ) (a : ℕ) → AllByRecursion (λ b. b ≢ a) order → AreOnce order → AreOnce (order ++ a ∷ [])
+    all_once : (order : List ℕ) (a : ℕ) → AllByRecursion (λ b. b ≢ a) order → NoneTwice order → NoneTwice (order ++ a ∷ [])
     all_once [] a apart once = (tt, tt)
     all_once (first ∷ order) a apart once = (all_append (λ other. first ≢ other) order (a ∷ []) once.0 (apart.0, tt), all_once order a apart.1 once.1)
 
@@ -61,7 +61,7 @@ pub record ApartIn {X Y Z : Type 0} (order : List ℕ) (xs : List (ℕ × X)) (y
   pub third : (a : ℕ) (z : Z) → lookup (nat_eq a) zs ≡ Some z → (list_any (nat_eq a) order ≡ true) × (lookup (nat_eq a) xs ≡ None) × (lookup (nat_eq a) ys ≡ None)
   pub unicast : (a : ℕ) → list_any (nat_eq a) order ≡ true → IsUnicast a
   pub some : (a : ℕ) → list_any (nat_eq a) order ≡ true → lookup (nat_eq a) xs ≡ None → lookup (nat_eq a) ys ≡ None → lookup (nat_eq a) zs ≡ None → ⊥
-  pub once : AreOnce order
+  pub once : NoneTwice order
 
 pub turned : {X Y Z : Type 0} (order : List ℕ) (xs : List (ℕ × X)) (ys : List (ℕ × Y)) (zs : List (ℕ × Z)) → ApartIn order xs ys zs → ApartIn order ys zs xs
 turned order xs ys zs p = record {

@@ -2,6 +2,7 @@
 -- only what these runs sent and what strangers said: so what is proved of the runs of one member holds of it in each world.
 use Rattle.std.specs.Prelude.{ℕ, ◌≡◌, ◌≢◌, ◌⊎◌, ◌≤◌, ◌<◌, ◌*◌, ◌^◌, ◌+◌, List, [], ◌∷◌, Some, None, true, Contains}
 use Rattle.std.specs.List.{AllByRecursion}
+pub use Rattle.mu_model_client.specs.Places.{NoneTwice}
 use Rattle.mu_model_image.specs.Meta.{Image, IsMeta}
 use Rattle.mu_model_wire.specs.Packet.{Packet}
 use Rattle.mu_model_node.specs.Events.{NodeEvent}
@@ -82,11 +83,6 @@ pub record DistributorRun (bag : List Packet) (address : ℕ) (d : DistributorMe
 
 -- ---- addresses
 
--- no address stands twice
-abbrev pub AreOnce : List ℕ → Type 0
-AreOnce [] = Unit {0}
-AreOnce (address ∷ others) = AllByRecursion (λ other. address ≢ other) others × AreOnce others
-
 -- what stands at an address is of one kind
 pub record AreApart (m : Mesh) : Type 0 where
   pub nodes : (address : ℕ) (n : Member) → node_at m address ≡ Some n → (is_member m address ≡ true) × (updater_at m address ≡ None) × (distributor_at m address ≡ None)
@@ -95,7 +91,7 @@ pub record AreApart (m : Mesh) : Type 0 where
   pub unicast : (address : ℕ) → is_member m address ≡ true → IsUnicast address
   -- each member is a node, an updater or a distributor
   pub some : (address : ℕ) → is_member m address ≡ true → node_at m address ≡ None → updater_at m address ≡ None → distributor_at m address ≡ None → ⊥
-  pub once : AreOnce m.order
+  pub once : NoneTwice m.order
 
 -- ---- a world
 

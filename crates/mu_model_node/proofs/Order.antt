@@ -13,6 +13,6 @@ in_left more (here h) = here (in_left more h)
 in_left more (later h) = later (in_left more h)
 
 pub in_order : {xs ys log more : List LogEntry} → InOrder xs log → InOrder ys more → InOrder (xs ++ ys) (log ++ more)
-in_order (none {log = log}) k = in_right log k
+in_order (none {all = log}) k = in_right log k
 in_order (here h) k = here (in_order h k)
 in_order (later h) k = later (in_order h k)

@@ -1,6 +1,9 @@
 -- The messages that a BLOB Transfer Server takes and those that it answers, and how each stands on the wire (MshMBT, BLOB
 -- Transfer messages).
 use Rattle.std.specs.Prelude.{ℕ, ◌==◌, Bool, List, [], ◌∷◌, ◌++◌, Option, Some, None, if◌then◌else◌}
+use Rattle.mu_model_wire.specs.Limits.{most_octets}
+pub use Rattle.mu_model_wire.specs.Limits.{most_chunk}
+use Rattle.mu_model_wire.specs.ReportFields.{format_of, bits_shown, list_shown}
 use Rattle.mu_model_wire.specs.Fields.{Shown, number, octets as shown_octets, perhaps, Message}
 use Rattle.mu_model_wire.specs.Names.{mode, id, size, log, mtu, status, phase, blocks, chunk, octets, missing, format, block, chunk_size, bits, min_log, max_log, max_chunks, max_chunk_size, max_size, push, pull}
 use Rattle.mu_model_wire.specs.Reading.{value_of}
@@ -42,12 +45,9 @@ most_chunks = 2048
 abbrev pub least_chunk : ℕ
 least_chunk = 8
 
-abbrev pub most_chunk : ℕ
-most_chunk = 376
-
 -- octets of a message
 abbrev pub own_mtu : ℕ
-own_mtu = 380
+own_mtu = most_octets
 
 -- ---- on the wire
 
@@ -76,21 +76,6 @@ blob_request_of m =
 abbrev pub transfer_shown : Option Parameters → List Bool → List Shown
 transfer_shown None absent = []
 transfer_shown (Some p) absent = number size p.size ∷ number log p.log ∷ number mtu p.mtu ∷ shown_octets blocks (bit_field absent) ∷ []
-
--- the format of a report on the wire
-abbrev pub format_of : Report → ℕ
-format_of All = 0
-format_of Nothing = 1
-format_of (Bits os) = 2
-format_of (Listed ns) = 3
-
-abbrev pub bits_shown : Report → List Shown
-bits_shown (Bits os) = shown_octets bits os.items ∷ []
-bits_shown _ = []
-
-abbrev pub list_shown : Report → List (List Shown)
-list_shown (Listed ns) = shown_numbers missing ns.items
-list_shown _ = []
 
 abbrev pub blob_message_of : BlobReply → Message
 blob_message_of (BlobInformationStatus capacity) = record {

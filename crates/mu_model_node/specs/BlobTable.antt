@@ -2,6 +2,7 @@
 -- (MshMBT, BLOB Transfer Server behavior; its timeout, its statuses and the pull reports as this profile sets them).
 use Rattle.std.specs.Prelude.{ℕ, ◌+◌, ◌-◌, ◌*◌, ◌==◌, min, nat_lt, nat_le, not, Bool, true, false, ◌&&◌, ◌||◌, List, [], ◌∷◌, length, take, Option, Some, None, if◌then◌else◌, is_some, is_none}
 use Rattle.std.specs.List.{list_any}
+pub use Rattle.mu_model_wire.specs.Statuses.{success}
 use Rattle.mu_model_wire.specs.Reports.{members, report_of}
 use Rattle.mu_model_wire.specs.declared.reports.Report.{Report}
 use Rattle.mu_model_wire.specs.declared.reports.Report.TheVariants.{All, Nothing}
@@ -21,9 +22,6 @@ abbrev pub silently : Session → Served
 silently l = record { session = l; change = Same; replies = [] }
 
 -- ---- statuses (MshMBT, Status)
-
-abbrev pub success : ℕ
-success = 0
 
 abbrev pub invalid_block_number : ℕ
 invalid_block_number = 1

@@ -1,11 +1,8 @@
 -- What an event does to the flash: the durable states that it goes through, and the one that stands after each operation.
 use Rattle.std.specs.Prelude.{ℕ, ◌*◌, ◌-◌, ◌==◌, Bool, true, false, List, [], ◌∷◌, ◌++◌, if◌then◌else◌, replicate}
+pub use Rattle.mu_model_image.specs.Sizes.{page_octets}
 pub use Rattle.mu_model_node.specs.declared.FlashWork.{FlashWork}
 pub use Rattle.mu_model_node.specs.declared.FlashWork.TheVariants.{Untouched, Recorded, Begun, PutBlock}
-
--- octets of a page of flash
-abbrev pub page_octets : ℕ
-page_octets = 4096
 
 -- the slots after the present record that this run may still use, after a further record: a long record leaves none, and a
 -- short one begins a control page where there is none

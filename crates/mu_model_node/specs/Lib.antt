@@ -1,3 +1,4 @@
+pub mod There
 pub mod Slots
 pub mod BlobMessages
 pub mod BlobServer

@@ -4,7 +4,7 @@ use Rattle.mu_model_wire.specs.Packet.{Packet}
 use Rattle.mu_model_image.specs.declared.Meta.{Meta}
 use Rattle.mu_model_image.specs.Meta.{Image}
 use Rattle.mu_model_node.specs.BlobMessages.{Parameters}
-use Rattle.mu_model_node.specs.Slots.{Slots, is_full}
+use Rattle.mu_model_node.specs.Slots.{Slots, is_full, held_count}
 use Rattle.mu_model_node.specs.BlobServer.{Transfer, Link, Cut, Session, asleep, Serving, NoJob, Lacking, Whole, Server, BlobPhase, server_phase}
 use Rattle.mu_model_node.specs.FlashWork.{page_octets}
 use Rattle.mu_model_node.specs.declared.NodeConfig.{NodeConfig}
@@ -123,3 +123,14 @@ server_of s = record { capacity = s.durable.capacity; serving = serving_in (upda
 
 abbrev pub blob_phase : NodeState → BlobPhase
 blob_phase s = server_phase (server_of s)
+
+-- ---- what is read of a job
+
+abbrev pub filling_blocks : Slots → Stored → ℕ
+filling_blocks held Filling = held_count held
+filling_blocks held _ = 0
+
+-- how many blocks of a bank in filling are held; 0 where none is in filling
+abbrev pub filling_count : Option Job → ℕ
+filling_count None = 0
+filling_count (Some j) = filling_blocks j.held j.stored

@@ -1,8 +1,9 @@
 -- One node among strangers: whatever packets come, from whatever sources, whatever time passes, and whenever the power goes.
 use Rattle.std.specs.Prelude.{ℕ, ◌≡◌, ◌⊎◌, List, [], ◌∷◌, ◌++◌, Option, Some, None, slice_get, slice_index_or}
+use Rattle.mu_model_wire.specs.Packet.{Packet}
 use Rattle.mu_model_image.specs.Meta.{Image, IsFit}
 use Rattle.mu_model_node.specs.NodeState.{Stored, Filling, Verified, Refused, Applied, Job, NodeDurable, NodeState, restarted}
-use Rattle.mu_model_node.specs.Events.{NodeEvent, node_step, node_work}
+use Rattle.mu_model_node.specs.Events.{NodeEvent, PacketComes, node_step, node_work}
 use Rattle.mu_model_node.specs.Log.{LogEntry, Took, Asked, Active, Reached, logged}
 use Rattle.mu_model_node.specs.Sound.{IsNodeDurable}
 use Rattle.mu_model_node.specs.declared.NodeConfig.{NodeConfig}
@@ -34,13 +35,23 @@ abbrev pub log_after : NodeConfig → NodeState → List Happening → List LogE
 log_after config s [] = []
 log_after config s (h ∷ hs) = logged s (happened config s h) ++ log_after config (happened config s h) hs
 
+-- the packets that come, those of torn events too
+abbrev pub come_by : Happening → List Packet
+come_by (Done (PacketComes packet) now) = packet ∷ []
+come_by (Torn (PacketComes packet) now operations) = packet ∷ []
+come_by _ = []
+
+abbrev pub come_in : List Happening → List Packet
+come_in [] = []
+come_in (h ∷ hs) = come_by h ++ come_in hs
+
 -- ---- what is safe
 
 -- the first list stands in the second, in order, perhaps with others between
-pub data InOrder : List LogEntry → List LogEntry → Type 0 where
-  none : {log : List LogEntry} → InOrder [] log
-  here : {x : LogEntry} {xs log : List LogEntry} → InOrder xs log → InOrder (x ∷ xs) (x ∷ log)
-  later : {y : LogEntry} {xs log : List LogEntry} → InOrder xs log → InOrder xs (y ∷ log)
+pub data InOrder {A : Type 0} : List A → List A → Type 0 where
+  none : {all : List A} → InOrder [] all
+  here : {x : A} {xs all : List A} → InOrder xs all → InOrder (x ∷ xs) (x ∷ all)
+  later : {y : A} {xs all : List A} → InOrder xs all → InOrder xs (y ∷ all)
 
 -- an image came whole, by an update that was taken, verified, asked for and made active, in this order
 pub record IsUpdated (log : List LogEntry) (index : ℕ) (image : Image) : Type 0 where

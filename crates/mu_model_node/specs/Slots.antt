@@ -1,6 +1,7 @@
 -- A finite map from the numbers below a bound to octets: a list with a place for each number.
 use Rattle.std.specs.Prelude.{ℕ, Bool, List, [], ◌∷◌, ◌++◌, map, Option, Some, None, set, replicate, slice_index_or, is_some, is_none}
 use Rattle.std.specs.List.{count_by, list_all}
+pub use Rattle.mu_model_image.specs.Pieces.{joined}
 
 abbrev pub Slots : Type 0
 Slots = List (Option (List ℕ))
@@ -25,12 +26,6 @@ received slots = map is_some slots
 
 abbrev pub missing : Slots → List Bool
 missing slots = map is_none slots
-
--- all that is there, in order
-abbrev pub joined : Slots → List ℕ
-joined [] = []
-joined (None ∷ slots) = joined slots
-joined (Some octets ∷ slots) = octets ++ joined slots
 
 -- how many places have something
 abbrev pub held_count : Slots → ℕ

@@ -1,6 +1,7 @@
 -- Which states a node can be in: what a boot may find, and what a run may have beside it. The ranges of numbers are those of the
 -- messages and of the records that have them.
 use Rattle.std.specs.Prelude.{ℕ, ◌≡◌, ◌<◌, ◌≤◌, ◌*◌, List, [], length, Option, Some, None, slice_get, is_some, true}
+use Rattle.mu_model_image.specs.Sizes.{most_image}
 use Rattle.mu_model_image.specs.Meta.{Image, IsFit}
 use Rattle.mu_model_image.specs.Pieces.{block_count, block_length, chunk_count, chunk_length}
 use Rattle.mu_model_node.specs.Slots.{Slots, at, is_full, joined}
@@ -125,7 +126,7 @@ pub record IsNodeState (s : NodeState) : Type 0 where
 -- a transfer that was begun, within 256 pages
 pub record IsTransfer (t : Transfer) (p : Parameters) : Type 0 where
   pub some : 1 ≤ p.size
-  pub few_octets : p.size ≤ 1048576
+  pub few_octets : p.size ≤ most_image
   pub few_blocks : length t.held ≤ 256
   pub blocks : AreBlocks t.size p t.held
 

@@ -1,6 +1,7 @@
 -- The table of a Firmware Update Server: a definition for each message, by the phase that it comes in (MshDFU, Firmware Update
 -- Server behavior; what is compared and kept as this profile sets it).
 use Rattle.std.specs.Prelude.{ℕ, ◌==◌, nat_lt, nat_le, Bool, false, ◌&&◌, List, [], ◌∷◌, Option, Some, None, Result, Ok, Err, if◌then◌else◌, length, take, drop, map, slice_get, bytes_eq}
+pub use Rattle.mu_model_wire.specs.Statuses.{success, wrong_phase}
 use Rattle.mu_model_image.specs.declared.Meta.{Meta}
 use Rattle.mu_model_image.specs.Meta.{Image, meta_from, firmware_id, own_company}
 use Rattle.mu_model_node.specs.UpdateMessages.{UpdateStart, UpdateRequest, InformationGet, MetadataCheck, UpdateGet, StartUpdate, UpdateCancel, UpdateApply, ShownJob, UpdateReply, InformationStatus, MetadataStatus, UpdateStatus}
@@ -11,12 +12,6 @@ use Rattle.mu_model_node.specs.NodeState.{Filling, Applied, Job, NodeDurable, No
 use Rattle.mu_model_node.specs.NodeOutcome.{Outcome, with_session, recorded, with_job}
 
 -- ---- statuses (MshDFU, Status)
-
-abbrev pub success : ℕ
-success = 0
-
-abbrev pub wrong_phase : ℕ
-wrong_phase = 2
 
 abbrev pub wrong_firmware_index : ℕ
 wrong_firmware_index = 4

@@ -1,5 +1,6 @@
 -- The states that the calls on a store give are next ones, and what lies outside a change stays.
 use Rattle.std.specs.Prelude.{◌≡◌, ◌⊎◌, ℕ, ◌+◌, ◌*◌, ◌^◌, ◌<◌, ◌≤◌, Bool, Option, Some, None, List, [], ◌∷◌, length, replicate, slice_set, slice_index_or}
+use Rattle.mu_model_image.specs.Sizes.{page_octets}
 use Rattle.mu_model_image.specs.Pieces.{block_count, block_length, piece_count}
 use Rattle.mu_model_flash.specs.Bits.{AreOctets, written, part_of, SameOutside}
 use Rattle.mu_model_flash.specs.Run.{either, Refines}
@@ -42,11 +43,11 @@ pub record NextStateLaws : Type 0 where
 -- Where banks and blocks lie.
 pub record PlaceLaws : Type 0 where
   -- a bank lies in the flash
-  pub bank_within : (r : Record) (b size : ℕ) → b < r.number → size ≤ 4096 * r.pages → bank_place r b + size ≤ 4096 * pages_of r
+  pub bank_within : (r : Record) (b size : ℕ) → b < r.number → size ≤ page_octets * r.pages → bank_place r b + size ≤ page_octets * pages_of r
   -- a block begins within the image
   pub block_begins : (size log i : ℕ) → i < block_count size log → i * 2 ^ log < size
   -- what banks hold lies past the control pages
-  pub banks_same : (r : Record) (contents : ℕ → Content) (old new : List ℕ) → IsRecord r → length old ≡ 4096 * pages_of r → SameOutside 0 8192 old new
+  pub banks_same : (r : Record) (contents : ℕ → Content) (old new : List ℕ) → IsRecord r → length old ≡ page_octets * pages_of r → SameOutside 0 8192 old new
       → ((b : ℕ) → b < r.number → BankHolds r b (entry_of r b) (contents b) old) → (b : ℕ) → b < r.number → BankHolds r b (entry_of r b) (contents b) new
   -- operations on a range that has nothing of what the state says leave the state represented
   pub free_reads : (page : ℕ) (word : Word) (d : StoreState) (old : List ℕ) (at n : ℕ) → 8192 ≤ at → IsFree d at n → RepresentsAt page word d old
@@ -63,7 +64,7 @@ pub record IsFillingBank (page : ℕ) (word : Word) (d : StoreState) (image : Li
 pub record BlockLaws : Type 0 where
   -- the pages of a block that isn't held have nothing of what the banks hold
   pub free : (page : ℕ) (word : Word) (d : StoreState) (image : List ℕ) (bank size log : ℕ) (blocks : List (Option (List ℕ))) → IsFillingBank page word d image bank size log blocks
-      → (i : ℕ) → i < block_count size log → ((octets : List ℕ) → slice_index_or blocks i None ≡ Some octets → ⊥) → IsFree d (block_place d.present bank log i) (4096 * piece_count (block_length size log i) 4096)
+      → (i : ℕ) → i < block_count size log → ((octets : List ℕ) → slice_index_or blocks i None ≡ Some octets → ⊥) → IsFree d (block_place d.present bank log i) (page_octets * piece_count (block_length size log i) page_octets)
   -- where its octets lie at its place, its mark makes it held
   pub represents : (page : ℕ) (word : Word) (d : StoreState) (image : List ℕ) (bank size log : ℕ) (blocks : List (Option (List ℕ))) → IsFillingBank page word d image bank size log blocks
       → (i : ℕ) → i < block_count size log → (octets : List ℕ) → part_of image (block_place d.present bank log i) (block_length size log i) ≡ octets

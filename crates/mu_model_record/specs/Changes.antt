@@ -3,6 +3,7 @@ use Rattle.std.specs.Prelude.{ℕ, ◌+◌, if◌then◌else◌, Bool, List, [],
 use Rattle.mu_model_image.specs.declared.Meta.{Meta}
 use Rattle.mu_model_image.specs.Meta.{is_fit}
 use Rattle.mu_model_image.specs.Pieces.{block_count}
+pub use Rattle.mu_model_image.specs.Pieces.{joined}
 use Rattle.mu_model_record.specs.declared.Record.{Record}
 use Rattle.mu_model_record.specs.declared.BankState.{BankState}
 use Rattle.mu_model_record.specs.declared.BankState.TheVariants.{Empty, Filling, Sealed}
@@ -74,12 +75,6 @@ with_block d b i octets = record {
   present = d.present;
   contents = slice_set d.contents b (held (slice_set (blocks_in (content_of_bank d b)) i (Some octets)));
 }
-
--- the octets of the blocks that are held, joined
-abbrev pub joined : List (Option (List ℕ)) → List ℕ
-joined [] = []
-joined (None ∷ blocks) = joined blocks
-joined (Some octets ∷ blocks) = octets ++ joined blocks
 
 -- The bank is Sealed where what it holds is fit for the metadata, and else Empty.
 abbrev pub sealed_or_not : StoreState → ℕ → Meta → List ℕ → List ℕ → StoreState

@@ -1,6 +1,7 @@
 -- What a boot finds in the octets of a flash: nothing, something else, a bank that is damaged, or a store (this profile).
 use Rattle.std.specs.Prelude.{◌≡◌, ◌≢◌, ◌⊎◌, ℕ, ◌+◌, ◌*◌, ◌<◌, ◌≤◌, List, length, slice_index}
 use Rattle.sha2.specs.Sha256.{sha256}
+use Rattle.mu_model_image.specs.Sizes.{page_octets}
 use Rattle.mu_model_image.specs.declared.Meta.{Meta}
 use Rattle.mu_model_image.specs.Pieces.{block_count}
 use Rattle.mu_model_flash.specs.Bits.{part_of}
@@ -13,7 +14,7 @@ use Rattle.mu_model_record.specs.Store.{pages_of, mark_place, bank_place}
 -- A word of a control page. A control page that the flash hasn't has none.
 pub record HasWord (image : List ℕ) (page : ℕ) (word : Word) : Type 0 where
   pub control : page < 2
-  pub within : 4096 * page + 4096 ≤ length image
+  pub within : page_octets * page + page_octets ≤ length image
   pub there : IsWord (page_of image page) word
 
 -- the slot in which a word begins
@@ -45,7 +46,7 @@ pub record HasPresent (image : List ℕ) (r : Record) : Type 0 where
   pub page : ℕ
   pub word : Word
   pub is : IsPresent image page word r
-  pub size : length image ≡ 4096 * pages_of r
+  pub size : length image ≡ page_octets * pages_of r
 
 -- each mark of a block of the bank that is Filling is FF or FE
 abbrev pub AreMarks : Record → List ℕ → Type 0
@@ -68,7 +69,7 @@ IsBlank image = (page : ℕ) (word : Word) → ¬ HasWord image page word
 -- a word isn't a record of its place, or the flash hasn't the pages of the present record, or a mark is neither FF nor FE
 pub data IsForeign (image : List ℕ) : Type 0 where
   other_word : (page : ℕ) (word : Word) → HasWord image page word → ¬ IsRecordWord word → IsForeign image
-  other_size : (page : ℕ) (word : Word) (r : Record) → IsPresent image page word r → length image ≢ 4096 * pages_of r → IsForeign image
+  other_size : (page : ℕ) (word : Word) (r : Record) → IsPresent image page word r → length image ≢ page_octets * pages_of r → IsForeign image
   other_mark : (r : Record) → HasPresent image r → ¬ AreMarks r image → IsForeign image
 
 -- The lowest Sealed bank whose octets haven't the digest of its metadata, with that digest and theirs.

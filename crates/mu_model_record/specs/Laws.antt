@@ -1,5 +1,6 @@
 -- What holds of code words and of the words of a page.
 use Rattle.std.specs.Prelude.{◌≡◌, ◌⊎◌, ◌↔◌, ℕ, ◌+◌, ◌-◌, ◌*◌, ◌<◌, ◌≤◌, List, [], ◌∷◌, ◌++◌, length, slice_index}
+use Rattle.mu_model_image.specs.Sizes.{page_octets}
 use Rattle.mu_model_flash.specs.Bits.{AreOctets, blank, Between}
 use Rattle.mu_model_record.specs.Code.{coded, IsCodeWord, content_of, HasPairOfOnes}
 use Rattle.mu_model_record.specs.Page.{page_of, slot_of, slot_in, format_of, Word, page_word, slot_word, IsWord, IsSafePage, IsDead, PageFades, CanWriteSlot, SlotChanges}
@@ -35,7 +36,7 @@ PairOfOnesIsNoCodeWord = (word : List ℕ) → HasPairOfOnes word → ¬ IsCodeW
 
 -- a torn erase of a safe page leaves each word as it was or none
 abbrev pub TornEraseFades : Type 0
-TornEraseFades = (old new : List ℕ) → length old ≡ 4096 → IsSafePage old → Between old (blank 4096) new → PageFades old new
+TornEraseFades = (old new : List ℕ) → length old ≡ page_octets → IsSafePage old → Between old (blank page_octets) new → PageFades old new
 
 -- what fades has no word that wasn't there, and is safe
 abbrev pub FadedHasNoNewWord : Type 0
@@ -52,7 +53,7 @@ WrittenPageHasItsWord =
 -- a program of such a page that is cut short leaves it whole or without a word
 abbrev pub TornPageIsWholeOrDead : Type 0
 TornPageIsWholeOrDead =
-    (octets image : List ℕ) → length octets ≡ 2048 → AreOctets octets → format_of octets ≡ 1 → Between (blank 4096) (coded octets) image → (image ≡ coded octets) ⊎ IsDead image
+    (octets image : List ℕ) → length octets ≡ 2048 → AreOctets octets → format_of octets ≡ 1 → Between (blank page_octets) (coded octets) image → (image ≡ coded octets) ⊎ IsDead image
 
 -- a slot that is written gives the page no word but the new one
 abbrev pub WrittenSlotHasItsWord : Type 0
@@ -68,13 +69,13 @@ WrittenSlotIsSafe =
 -- what an operation leaves of the octets of a flash, as what it leaves of the page
 abbrev pub TurnsOfAPage : Type 0
 TurnsOfAPage =
-    (old image octets : List ℕ) (page : ℕ) → 4096 * page + 4096 ≤ length old → length octets ≡ 2048
+    (old image octets : List ℕ) (page : ℕ) → page_octets * page + page_octets ≤ length old → length octets ≡ 2048
     → PageTurns old page octets after image → page_of image page ≡ coded octets
 
 abbrev pub TurnsOfASlot : Type 0
 TurnsOfASlot =
-    (old image octets : List ℕ) (page k : ℕ) → 4096 * page + 4096 ≤ length old → k < 4 → length octets ≡ 512
+    (old image octets : List ℕ) (page k : ℕ) → page_octets * page + page_octets ≤ length old → k < 4 → length octets ≡ 512
     → SlotTurns old page k octets before image ⊎ SlotTurns old page k octets after image → SlotChanges (page_of old page) (page_of image page) k octets
 
 abbrev pub SlotsOfAPage : Type 0
-SlotsOfAPage = (octets : List ℕ) (page k : ℕ) → 4096 * page + 4096 ≤ length octets → k < 4 → slot_in (page_of octets page) k ≡ slot_of octets page k
+SlotsOfAPage = (octets : List ℕ) (page k : ℕ) → page_octets * page + page_octets ≤ length octets → k < 4 → slot_in (page_of octets page) k ≡ slot_of octets page k

@@ -1,5 +1,6 @@
 -- What the operations of a record make of a flash, whole or cut short: the state before it or the state after it.
 use Rattle.std.specs.Prelude.{◌≡◌, ℕ, ◌+◌, ◌*◌, ◌<◌, ◌≤◌, List, [], ◌∷◌, ◌++◌, length}
+use Rattle.mu_model_image.specs.Sizes.{page_octets}
 use Rattle.mu_model_flash.specs.Bits.{AreOctets, blank, written}
 use Rattle.mu_model_flash.specs.Run.{either, Refines}
 use Rattle.mu_model_record.specs.declared.Record.{Record}
@@ -29,13 +30,13 @@ module _ (page other : ℕ) (word : Word) (d e : StoreState) (old : List ℕ) wh
     pub safe : IsSafePage (page_of old other)
     -- and the state stays as it was
     pub erase : Refines (either (PageErases old other)) (either RepresentsStore) before (after ∷ []) d (d ∷ [])
-    pub erased : (c : List ℕ) → PageErases old other after c → RepresentsAt page word d c × IsNext c d e × (page_of c other ≡ blank 4096)
+    pub erased : (c : List ℕ) → PageErases old other after c → RepresentsAt page word d c × IsNext c d e × (page_of c other ≡ blank page_octets)
     -- an erase and a program of the whole page: the state as it was, or the next one
     pub long : (octets : List ℕ) → IsLongContent e.present octets → Refines (either (PageTurns old other octets)) (either RepresentsStore) before (before ∷ after ∷ []) d (d ∷ e ∷ [])
     pub long_after : (octets : List ℕ) → IsLongContent e.present octets → (c : List ℕ) → PageTurns old other octets after c → RepresentsAt other (page_word octets) e c
     -- a program of its first slot, where it was erased
-    pub short : page_of old other ≡ blank 4096 → (octets : List ℕ) → IsShortContent e.present octets → Refines (either (SlotTurns old other 0 octets)) (either RepresentsStore) before (after ∷ []) d (e ∷ [])
-    pub short_after : page_of old other ≡ blank 4096 → (octets : List ℕ) → IsShortContent e.present octets → (c : List ℕ) → SlotTurns old other 0 octets after c → RepresentsAt other (slot_word 0 octets) e c
+    pub short : page_of old other ≡ blank page_octets → (octets : List ℕ) → IsShortContent e.present octets → Refines (either (SlotTurns old other 0 octets)) (either RepresentsStore) before (after ∷ []) d (e ∷ [])
+    pub short_after : page_of old other ≡ blank page_octets → (octets : List ℕ) → IsShortContent e.present octets → (c : List ℕ) → SlotTurns old other 0 octets after c → RepresentsAt other (slot_word 0 octets) e c
 
 -- where the flash represents a state whose present record is on one control page
 abbrev pub NextOnOtherPage : Type 0
@@ -52,6 +53,6 @@ NextInNextSlot = (page slot : ℕ) (content : List ℕ) (d e : StoreState) (old 
 
 -- The first record, written on page 0 where both control pages were erased, or page 1 and then page 0 as a whole.
 pub record FirstRecordLaws : Type 0 where
-  pub long : (old : List ℕ) → 8192 ≤ length old → page_of old 1 ≡ blank 4096 → (r : Record) (octets : List ℕ) → IsLongContent r octets → ControlPages 0 (page_word octets) r (written old (4096 * 0) (coded octets))
-  pub short : (old : List ℕ) → 8192 ≤ length old → page_of old 1 ≡ blank 4096 → page_of old 0 ≡ blank 4096 → (r : Record) (octets : List ℕ) → IsShortContent r octets
+  pub long : (old : List ℕ) → 8192 ≤ length old → page_of old 1 ≡ blank page_octets → (r : Record) (octets : List ℕ) → IsLongContent r octets → ControlPages 0 (page_word octets) r (written old (page_octets * 0) (coded octets))
+  pub short : (old : List ℕ) → 8192 ≤ length old → page_of old 1 ≡ blank page_octets → page_of old 0 ≡ blank page_octets → (r : Record) (octets : List ℕ) → IsShortContent r octets
       → ControlPages 0 (slot_word 0 octets) r (written old (slot_place 0 0) (coded octets)) × IsFollowedBy 0 3 (written old (slot_place 0 0) (coded octets))

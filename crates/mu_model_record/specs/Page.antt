@@ -1,15 +1,16 @@
 -- Control pages: four slots of 1,024 octets, and the words that they hold (this profile).
 use Rattle.std.specs.Prelude.{◌≡◌, ◌≢◌, ◌⊎◌, ℕ, ◌+◌, ◌*◌, ◌<◌, List, slice_index}
+use Rattle.mu_model_image.specs.Sizes.{page_octets}
 use Rattle.mu_model_flash.specs.Bits.{blank, part_of}
 use Rattle.mu_model_record.specs.Code.{coded, IsCodeWord, content_of, HasPairOfOnes, IsSafe, Fades}
 
 -- the octets of a page of a flash
 abbrev pub page_of : List ℕ → ℕ → List ℕ
-page_of octets page = part_of octets (4096 * page) 4096
+page_of octets page = part_of octets (page_octets * page) page_octets
 
 -- where a slot of a page begins
 abbrev pub slot_place : ℕ → ℕ → ℕ
-slot_place page slot = 4096 * page + 1024 * slot
+slot_place page slot = page_octets * page + 1024 * slot
 
 -- the octets of a slot of a page of a flash
 abbrev pub slot_of : List ℕ → ℕ → ℕ → List ℕ

@@ -1,6 +1,7 @@
 -- The record of a control page as a table (this profile). Numbers are little-endian.
 use Rattle.std.specs.Prelude.{◌≡◌, ℕ, ◌+◌, ◌*◌, ◌^◌, ◌<◌, ◌≤◌, List, [], ◌∷◌, ◌++◌, Some, length, drop, replicate, slice_index, slice_index_or}
 use Rattle.byteorder.specs.Endian.{little_number}
+use Rattle.mu_model_image.specs.Sizes.{page_octets}
 use Rattle.mu_model_image.specs.declared.Meta.{Meta}
 use Rattle.mu_model_image.specs.Meta.{meta_from, IsMeta}
 use Rattle.mu_model_flash.specs.Bits.{AreOctets, part_of}
@@ -58,7 +59,7 @@ pub record IsSpelled (format : ℕ) (r : Record) (octets : List ℕ) : Type 0 wh
 
 -- octets of a bank
 abbrev pub capacity_of : Record → ℕ
-capacity_of r = 4096 * r.pages
+capacity_of r = page_octets * r.pages
 
 -- the range of a bank's entry
 abbrev pub IsEntryInRange : Record → BankState → Type 0

@@ -1,4 +1,5 @@
 -- When the octets of a flash represent the state of a store (this profile).
+use Rattle.mu_model_image.specs.Sizes.{page_octets}
 use Rattle.mu_model_record.specs.Record.{IsRecord, IsWordOf, entry_of}
 use Rattle.std.specs.Prelude.{◌≡◌, ◌⊎◌, ℕ, ◌+◌, ◌-◌, ◌*◌, ◌<◌, ◌≤◌, List, length}
 use Rattle.mu_model_flash.specs.Bits.{blank}
@@ -21,7 +22,7 @@ pub record ControlPages (page : ℕ) (word : Word) (r : Record) (image : List �
 
 -- The same flash, with the place of the present record named.
 pub record RepresentsAt (page : ℕ) (word : Word) (d : StoreState) (image : List ℕ) : Type 0 where
-  pub size : length image ≡ 4096 * pages_of d.present
+  pub size : length image ≡ page_octets * pages_of d.present
   pub in_range : IsRecord d.present
   pub control : ControlPages page word d.present image
   pub as_many : length d.contents ≡ d.present.number

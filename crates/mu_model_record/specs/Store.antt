@@ -1,5 +1,6 @@
 -- The state of a store (this profile): its present record, and what its banks hold.
 use Rattle.std.specs.Prelude.{◌≡◌, ℕ, ◌+◌, ◌*◌, ◌^◌, ◌<◌, List, Option, Some, None, length, slice_index, slice_index_or}
+use Rattle.mu_model_image.specs.Sizes.{page_octets}
 use Rattle.mu_model_image.specs.Meta.{IsFit}
 use Rattle.mu_model_image.specs.Pieces.{block_count, block_length}
 use Rattle.mu_model_flash.specs.Bits.{part_of}
@@ -26,11 +27,11 @@ pages_of r = 2 + r.number * (1 + r.pages)
 
 -- where the mark of block i of bank b lies
 abbrev pub mark_place : ℕ → ℕ → ℕ
-mark_place b i = 4096 * (2 + b) + i
+mark_place b i = page_octets * (2 + b) + i
 
 -- where bank b begins
 abbrev pub bank_place : Record → ℕ → ℕ
-bank_place r b = 4096 * (2 + r.number + b * r.pages)
+bank_place r b = page_octets * (2 + r.number + b * r.pages)
 
 -- where block i of bank b begins
 abbrev pub block_place : Record → ℕ → ℕ → ℕ → ℕ

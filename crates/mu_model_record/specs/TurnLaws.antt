@@ -1,5 +1,6 @@
 -- What an operation on a control page, a slot or a mark leaves of the octets of a flash, whole or cut short.
 use Rattle.std.specs.Prelude.{◌≡◌, ℕ, ◌+◌, ◌*◌, ◌<◌, ◌≤◌, List, [], ◌∷◌, length, slice_index}
+use Rattle.mu_model_image.specs.Sizes.{page_octets}
 use Rattle.mu_model_flash.specs.Bits.{AreOctets, blank, written}
 use Rattle.mu_model_flash.specs.Run.{exact, either, Refines}
 use Rattle.mu_model_record.specs.Code.{coded}
@@ -8,31 +9,31 @@ use Rattle.mu_model_record.specs.Turns.{before, after, PageErases, PageTurns, Sl
 
 -- the page lies in the flash
 abbrev pub HasPage : List ℕ → ℕ → Type 0
-HasPage octets page = 4096 * page + 4096 ≤ length octets
+HasPage octets page = page_octets * page + page_octets ≤ length octets
 
 -- the octets after an erase of a page, and after the coded octets are written on it
 abbrev pub erased : List ℕ → ℕ → List ℕ
-erased old page = written old (4096 * page) (blank 4096)
+erased old page = written old (page_octets * page) (blank page_octets)
 
 abbrev pub coded_on : List ℕ → ℕ → List ℕ → List ℕ
-coded_on old page octets = written old (4096 * page) (coded octets)
+coded_on old page octets = written old (page_octets * page) (coded octets)
 
 -- An erase of a page.
 pub record EraseLaws : Type 0 where
   -- all outside it stays as it was
-  pub stays : (old : List ℕ) (page : ℕ) → HasPage old page → Refines exact (either (StaysOutside (4096 * page) 4096 old)) old (erased old page ∷ []) tt (tt ∷ [])
+  pub stays : (old : List ℕ) (page : ℕ) → HasPage old page → Refines exact (either (StaysOutside (page_octets * page) page_octets old)) old (erased old page ∷ []) tt (tt ∷ [])
   -- of a safe page each word is as it was or gone
   pub turns : (old : List ℕ) (page : ℕ) → HasPage old page → IsSafePage (page_of old page) → Refines exact (either (PageErases old page)) old (erased old page ∷ []) before (after ∷ [])
   -- so there is no word that wasn't there
   pub words : (old : List ℕ) (page : ℕ) → HasPage old page → Refines (either (PageErases old page)) (either (NoNewWord old page)) before (after ∷ []) tt (tt ∷ [])
   -- after it the page and its slots read FF
-  pub page : (old : List ℕ) (page : ℕ) → HasPage old page → page_of (erased old page) page ≡ blank 4096
+  pub page : (old : List ℕ) (page : ℕ) → HasPage old page → page_of (erased old page) page ≡ blank page_octets
   pub slots : (old : List ℕ) (page : ℕ) → HasPage old page → (k : ℕ) → k < 4 → slot_of (erased old page) page k ≡ blank 1024
 
 -- An erase of a page, and then a program of all of it.
 pub record WholePageLaws : Type 0 where
-  pub stays : (old : List ℕ) (page : ℕ) → HasPage old page → (word : List ℕ) → length word ≡ 4096
-      → Refines exact (either (StaysOutside (4096 * page) 4096 old)) old (erased old page ∷ written old (4096 * page) word ∷ []) tt (tt ∷ tt ∷ [])
+  pub stays : (old : List ℕ) (page : ℕ) → HasPage old page → (word : List ℕ) → length word ≡ page_octets
+      → Refines exact (either (StaysOutside (page_octets * page) page_octets old)) old (erased old page ∷ written old (page_octets * page) word ∷ []) tt (tt ∷ tt ∷ [])
   -- each word of a safe page is as it was or gone, or there is none, or the page holds a long record
   pub turns : (old : List ℕ) (page : ℕ) → HasPage old page → IsSafePage (page_of old page) → (octets : List ℕ) → length octets ≡ 2048 → AreOctets octets → format_of octets ≡ 1
       → Refines exact (either (PageTurns old page octets)) old (erased old page ∷ coded_on old page octets ∷ []) before (before ∷ after ∷ [])

@@ -1,5 +1,6 @@
 -- How a page, a slot or a mark turns from what it was to what is written, as states that octets stand for.
 use Rattle.std.specs.Prelude.{◌≡◌, ◌⊎◌, ℕ, ◌*◌, List, [], ◌∷◌}
+use Rattle.mu_model_image.specs.Sizes.{page_octets}
 use Rattle.mu_model_flash.specs.Bits.{blank, written, SameOutside}
 use Rattle.mu_model_record.specs.Code.{coded, HasPairOfOnes}
 use Rattle.mu_model_record.specs.Page.{page_of, slot_of, slot_place, Word, IsWord, IsDead, PageFades}
@@ -10,13 +11,13 @@ pub data Turn : Type 0 where
 
 -- An erase. Before it is done each word of the page is as it was or gone.
 abbrev pub PageErases : List ℕ → ℕ → Turn → List ℕ → Type 0
-PageErases old page before c = SameOutside (4096 * page) 4096 old c × PageFades (page_of old page) (page_of c page)
-PageErases old page after c = c ≡ written old (4096 * page) (blank 4096)
+PageErases old page before c = SameOutside (page_octets * page) page_octets old c × PageFades (page_of old page) (page_of c page)
+PageErases old page after c = c ≡ written old (page_octets * page) (blank page_octets)
 
 -- A page that is written whole. Before it is done each word of the page is as it was or gone, or there is none.
 abbrev pub PageTurns : List ℕ → ℕ → List ℕ → Turn → List ℕ → Type 0
-PageTurns old page octets before c = SameOutside (4096 * page) 4096 old c × (PageFades (page_of old page) (page_of c page) ⊎ IsDead (page_of c page))
-PageTurns old page octets after c = c ≡ written old (4096 * page) (coded octets)
+PageTurns old page octets before c = SameOutside (page_octets * page) page_octets old c × (PageFades (page_of old page) (page_of c page) ⊎ IsDead (page_of c page))
+PageTurns old page octets after c = c ≡ written old (page_octets * page) (coded octets)
 
 -- A slot that is written. Before it is done it has a pair of ones, so that it is no code word.
 abbrev pub SlotTurns : List ℕ → ℕ → ℕ → List ℕ → Turn → List ℕ → Type 0

@@ -1,5 +1,6 @@
 -- What a refusal of octets says of them (this profile).
 use Rattle.std.specs.Prelude.{◌≡◌, ◌≢◌, ◌⊎◌, ℕ, ◌+◌, ◌<◌, ◌≤◌, Bool, true, false, ◌&&◌, List, ◌++◌, length, take, Option, Some, None, Ok, Err, IsTrue}
+use Rattle.mu_model_wire.specs.Limits.{most_octets}
 use Rattle.mu_model_wire.specs.declared.Refusal.{Refusal}
 use Rattle.mu_model_wire.specs.declared.Why.{Why}
 use Rattle.mu_model_wire.specs.declared.Why.TheVariants.{Opcode, Short, Value, Long}
@@ -58,7 +59,7 @@ BeginningsAreShort =
 abbrev pub LongIsPastTheEnd : Type 0
 LongIsPastTheEnd =
     (bytes : List ℕ) (at : ℕ) → message_at rows bytes ≡ Err (record { at = at; why = Long })
-    → (at < length bytes) × ((at ≡ 380) ⊎ ((m : Message) × (message_at rows (take at bytes) ≡ Ok m)))
+    → (at < length bytes) × ((at ≡ most_octets) ⊎ ((m : Message) × (message_at rows (take at bytes) ≡ Ok m)))
 
 -- fields of which each has its place, up to the last one
 abbrev pub is_fixed : Fields → Bool
@@ -98,7 +99,7 @@ pub record HasForeignOpcode (bytes : List ℕ) (at : ℕ) : Type 0 where
 -- an opcode is refused at the first octet, exactly where it is so, and the octets aren't too many
 pub record OpcodesAreTold : Type 0 where
   pub told : (bytes : List ℕ) (at : ℕ) → message_at rows bytes ≡ Err (record { at = at; why = Opcode }) → HasForeignOpcode bytes at
-  pub refused : (bytes : List ℕ) → HasForeignOpcode bytes 0 → length bytes ≤ 380 → message_at rows bytes ≡ Err (record { at = 0; why = Opcode })
+  pub refused : (bytes : List ℕ) → HasForeignOpcode bytes 0 → length bytes ≤ most_octets → message_at rows bytes ≡ Err (record { at = 0; why = Opcode })
 
 -- ---- lists of number patterns
 

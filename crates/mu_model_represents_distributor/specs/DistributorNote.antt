@@ -2,6 +2,7 @@
 use Rattle.std.specs.Prelude.{◌≡◌, ◌++◌, ◌+◌, ◌-◌, ◌*◌, ◌/◌, ◌%◌, ℕ, ◌<◌, ◌≤◌, List, [], ◌∷◌, Option, Some, None, length, slice_get, slice_index, slice_index_or}
 use Rattle.std.specs.List.{flat_map}
 use Rattle.byteorder.specs.Endian.{little_bytes}
+pub use Rattle.mu_model_distributor.specs.DistState.{receiver_octets}
 use Rattle.mu_model_image.specs.declared.Meta.{Meta}
 use Rattle.mu_model_image.specs.Meta.{meta_of, meta_octets}
 use Rattle.mu_model_flash.specs.Bits.{part_of}
@@ -80,9 +81,6 @@ pub record SpellsDistributor (n : DistributorNote) (octets : List ℕ) : Type 0 
   pub zero_at_896 : part_of octets 896 832 ≡ zeros 832
 
 -- ---- what is written
-
-abbrev pub receiver_octets : Receiver → List ℕ
-receiver_octets r = little_bytes 2 r.address ++ (r.index ∷ r.phase ∷ r.update_status ∷ r.transfer_status ∷ [])
 
 abbrev pub settings_octets : Settings → List ℕ
 settings_octets s =

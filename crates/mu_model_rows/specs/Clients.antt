@@ -1,5 +1,6 @@
 -- What each event makes of the rows of a client, exactly.
 use Rattle.std.specs.Prelude.{ℕ, ◌≡◌, ◌⊎◌, ◌↔◌, ◌==◌, ◌&&◌, ◌+◌, max, nat_le, Bool, true, false, List, [], ◌∷◌, Option, Some, None, if◌then◌else◌, ⊤}
+pub use Rattle.mu_model_client.specs.Places.{Each}
 use Rattle.mu_model_image.specs.declared.Meta.{Meta}
 use Rattle.mu_model_node.specs.UpdateMessages.{ShownJob, UpdateReply, InformationStatus, MetadataStatus, UpdateStatus}
 use Rattle.mu_model_client.specs.declared.Dropped.TheVariants.{Status}
@@ -10,12 +11,6 @@ use Rattle.mu_model_client.specs.Client.{Step, Check, Start, Information, Transf
 use Rattle.mu_model_client.specs.Begin.{start, take_apply, take_cancel}
 use Rattle.mu_model_client.specs.Told.{is_present, told}
 use Rattle.mu_model_client.specs.Going.{is_empty, most_silent, going}
-
--- R holds of the receivers at each place, and there are as many
-abbrev pub Each : (Receiver → Receiver → Type 0) → List Receiver → List Receiver → Type 0
-Each R [] [] = ⊤
-Each R (x ∷ xs) (y ∷ ys) = R x y × Each R xs ys
-Each R _ _ = ⊥
 
 -- ---- time
 

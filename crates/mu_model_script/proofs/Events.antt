@@ -11,7 +11,8 @@ use Rattle.mu_model_flash.specs.declared.Pattern.TheVariants.{Old as OldBits, Ne
 use Rattle.mu_model_script.specs.declared.LineFault.{LineFault}
 use Rattle.mu_model_script.specs.declared.LineWhy.TheVariants.{Long}
 use Rattle.mu_model_script.specs.Pieces.{Token, tokens_of, pieces}
-use Rattle.mu_model_script.specs.Tokens.{Content, Hex, Made, Kind, unicast, group_or_none, destination, number_in, octets_up_to, image, mode, receivers, pattern, Value, Number, Octets, Image, Bits, Addresses, value_of, mode_of, put_before, unicasts_of, are_different, if_receivers, receivers_of, if_address, address_of, is_unicast, is_group, number_of, octets_of, if_length, content_of, made_of, seed_and_size, hex_after, made_after, after_prefix, pattern_of, seeded_bits}
+use Rattle.mu_model_wire.specs.Packet.{is_unicast, is_group}
+use Rattle.mu_model_script.specs.Tokens.{Content, Hex, Made, Kind, unicast, group_or_none, destination, number_in, octets_up_to, image, mode, receivers, pattern, Value, Number, Octets, Image, Bits, Addresses, value_of, mode_of, put_before, unicasts_of, are_different, if_receivers, receivers_of, if_address, address_of, number_of, octets_of, if_length, content_of, made_of, seed_and_size, hex_after, made_after, after_prefix, pattern_of, seeded_bits}
 use Rattle.mu_model_script.specs.Event.{Event, Node, Pair, Old, Updater, Distributor, Stock, Say, Deliver, Time, Cut, Tear, Active, Phase, Settle, Rows, Packet}
 use Rattle.mu_model_script.specs.Ranges.{IsWithin, IsUnicast, IsGroup, IsOctets, IsContent, IsPattern, IsNode, AreReceivers, IsUpdater, IsInRange}
 use Rattle.mu_model_script.specs.Lines.{LineRow, node_row, pair_row, old_row, say_row, deliver_row, time_row, cut_row, tear_row, active_row, phase_row, updater_row, distributor_row, stock_row, settle_row, rows_row, packet_row, line_rows, station_rows, script_rows, event_by, ◌>>=◌, or_refuse, refuse, Left, next_token, value_at, nothing_left, values_at, row_of, event_of, is_silent, some_event, event_among, line_event, script_event}

@@ -1,5 +1,6 @@
 -- The lines of a script as a table, and the one reading of it (this profile).
 use Rattle.std.specs.Prelude.{ℕ, ◌==◌, nat_lt, Bool, true, List, [], ◌∷◌, ◌++◌, length, codes, bytes_eq, Option, Some, None, Result, Ok, Err, if◌then◌else◌}
+use Rattle.mu_model_wire.specs.Limits.{most_octets, most_chunk, most_receivers}
 use Rattle.mu_model_script.specs.declared.LineWhy.{LineWhy}
 use Rattle.mu_model_script.specs.declared.LineWhy.TheVariants.{Token as BadToken, Long}
 use Rattle.mu_model_script.specs.declared.LineFault.{LineFault}
@@ -98,7 +99,7 @@ old_row = record { word = codes "old"; kinds = unicast ∷ group_or_none ∷ num
 
 -- say F T HEX
 abbrev pub say_row : LineRow
-say_row = record { word = codes "say"; kinds = unicast ∷ destination ∷ octets_up_to 380 ∷ []; event = say_event }
+say_row = record { word = codes "say"; kinds = unicast ∷ destination ∷ octets_up_to most_octets ∷ []; event = say_event }
 
 -- deliver K A
 abbrev pub deliver_row : LineRow
@@ -129,10 +130,10 @@ abbrev pub updater_row : LineRow
 updater_row = record {
   word = codes "updater";
   kinds =
-      unicast ∷ group_or_none ∷ number_in 0 281474976710655 ∷ number_in 0 255 ∷ number_in 0 65535 ∷ mode ∷ number_in 12 14 ∷ number_in 8 376
+      unicast ∷ group_or_none ∷ number_in 0 281474976710655 ∷ number_in 0 255 ∷ number_in 0 65535 ∷ mode ∷ number_in 12 14 ∷ number_in 8 most_chunk
       ∷ number_in 0 4294967295
       ∷ image
-      ∷ receivers 128
+      ∷ receivers most_receivers
       ∷ [];
   event = updater_event;
 }

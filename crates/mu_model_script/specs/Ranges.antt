@@ -2,6 +2,8 @@
 use Rattle.std.specs.Prelude.{◌≡◌, ℕ, ◌≤◌, ◌⊎◌, true, List, length}
 use Rattle.std.specs.List.{AllByRecursion}
 use Rattle.hex.specs.Hex.{IsBytes}
+use Rattle.mu_model_image.specs.Sizes.{most_image}
+use Rattle.mu_model_wire.specs.Limits.{most_octets, most_chunk, most_receivers}
 use Rattle.mu_model_flash.specs.declared.Pattern.{Pattern}
 use Rattle.mu_model_flash.specs.declared.Pattern.TheVariants.{Old as OldBits, New as NewBits, Made as MadeBits}
 use Rattle.mu_model_script.specs.Tokens.{Content, Hex, Made, are_different}
@@ -22,7 +24,7 @@ IsOctets most octets = IsWithin 1 most (length octets) × IsBytes octets
 
 abbrev pub IsContent : Content → Type 0
 IsContent (Hex octets) = IsOctets 1024 octets
-IsContent (Made seed size) = IsWithin 0 65535 seed × IsWithin 1 1048576 size
+IsContent (Made seed size) = IsWithin 0 65535 seed × IsWithin 1 most_image size
 
 abbrev pub IsPattern : Pattern → Type 0
 IsPattern OldBits = Unit {0}
@@ -49,17 +51,17 @@ pub record IsUpdater (address group id ttl base mode log chunk version : ℕ) (c
   pub base_in : IsWithin 0 65535 base
   pub mode_in : IsWithin 1 2 mode
   pub log_in : IsWithin 12 14 log
-  pub chunk_in : IsWithin 8 376 chunk
+  pub chunk_in : IsWithin 8 most_chunk chunk
   pub version_in : IsWithin 0 4294967295 version
   pub content_in : IsContent content
-  pub receivers_in : AreReceivers 128 to
+  pub receivers_in : AreReceivers most_receivers to
 
 abbrev pub IsInRange : Event → Type 0
 IsInRange (Node address group pages version content) = IsNode address group pages version content
 IsInRange (Pair address group pages version content second_version second_content) =
     IsNode address group pages version content × IsWithin 0 4294967295 second_version × IsContent second_content
 IsInRange (Old address group pages version content) = IsNode address group pages version content
-IsInRange (Say from to payload) = IsUnicast from × (IsUnicast to ⊎ IsGroup to) × IsOctets 380 payload
+IsInRange (Say from to payload) = IsUnicast from × (IsUnicast to ⊎ IsGroup to) × IsOctets most_octets payload
 IsInRange (Deliver packet address) = IsWithin 0 4294967295 packet × IsUnicast address
 IsInRange (Time address ms) = IsUnicast address × IsWithin 0 9223372036854775807 ms
 IsInRange (Cut address) = IsUnicast address

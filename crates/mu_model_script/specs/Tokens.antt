@@ -6,6 +6,8 @@ use Rattle.std.specs.Char.{is_ascii_digit}
 use Rattle.std.specs.Int.{w16, from_be_bytes}
 use Rattle.hex.specs.Hex.{decode_of, decode_sized}
 use Rattle.hex.specs.declared.error.FromHexError.{FromHexError}
+use Rattle.mu_model_image.specs.Sizes.{most_image}
+use Rattle.mu_model_wire.specs.Packet.{is_unicast, is_group}
 use Rattle.mu_model_flash.specs.declared.Pattern.{Pattern}
 use Rattle.mu_model_flash.specs.declared.Pattern.TheVariants.{Old as OldBits, New as NewBits, Made as MadeBits}
 use Rattle.mu_model_script.specs.Pieces.{pieces}
@@ -63,12 +65,6 @@ number_of least most octets = if is_decimal octets then if_within least most (di
 
 -- ---- addresses
 
-abbrev pub is_unicast : ℕ → Bool
-is_unicast address = nat_le 0x0001 address && nat_le address 0x7FFF
-
-abbrev pub is_group : ℕ → Bool
-is_group address = nat_le 0xC000 address && nat_le address 0xFFFF
-
 abbrev pub big_endian : Result (List ℕ) FromHexError → Option ℕ
 big_endian (Ok octets) = Some (from_be_bytes w16 octets)
 big_endian (Err e) = None
@@ -102,7 +98,7 @@ seed_and_size _ _ = None
 
 -- SEED:SIZE
 abbrev pub made_of : List (List ℕ) → Option Content
-made_of (seed ∷ size ∷ []) = seed_and_size (number_of 0 65535 seed) (number_of 1 1048576 size)
+made_of (seed ∷ size ∷ []) = seed_and_size (number_of 0 65535 seed) (number_of 1 most_image size)
 made_of _ = None
 
 abbrev pub made_after : Option (List ℕ) → Option Content

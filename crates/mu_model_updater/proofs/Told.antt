@@ -32,7 +32,7 @@ in_left more (here h) = here (in_left more h)
 in_left more (later h) = later (in_left more h)
 
 in_order : {xs ys heard more : List Heard} → InOrder xs heard → InOrder ys more → InOrder (xs ++ ys) (heard ++ more)
-in_order (none {heard = heard}) k = in_right heard k
+in_order (none {all = heard}) k = in_right heard k
 in_order (here h) k = here (in_order h k)
 in_order (later h) k = later (in_order h k)
 

@@ -1,6 +1,8 @@
 -- What holds of every updater, whatever comes to it and when.
 use Rattle.std.specs.Prelude.{ℕ, ◌≡◌, ◌⊎◌, ◌<◌, ◌≤◌, ◌^◌, true, List, [], ◌∷◌, length, map, take, Option, Some, None, Ok}
 use Rattle.std.specs.List.{AllByRecursion}
+use Rattle.mu_model_image.specs.Sizes.{most_image}
+pub use Rattle.mu_model_node.specs.Safe.{InOrder, none, here, later}
 use Rattle.mu_model_image.specs.declared.Meta.{Meta}
 use Rattle.mu_model_image.specs.Meta.{Image, IsMeta, meta_octets, firmware_id, own_company}
 use Rattle.mu_model_wire.specs.Fields.{Message}
@@ -20,12 +22,6 @@ use Rattle.mu_model_client_laws.specs.Asked.{HasReceiver, receivers_of}
 use Rattle.mu_model_updater.specs.Updater.{Updater, new_updater, UpdaterLine, first_image, plan_of, updater_step, updater_after, sent_in, starts_in, Heard, heard_in}
 
 -- ---- rows
-
--- the first list stands in the second, in order, perhaps with others between
-pub data InOrder : List Heard → List Heard → Type 0 where
-  none : {heard : List Heard} → InOrder [] heard
-  here : {x : Heard} {xs heard : List Heard} → InOrder xs heard → InOrder (x ∷ xs) (x ∷ heard)
-  later : {y : Heard} {xs heard : List Heard} → InOrder xs heard → InOrder xs (y ∷ heard)
 
 -- the receiver told this phase of the transfer
 pub record ToldPhase (id address phase : ℕ) (heard : List Heard) : Type 0 where
@@ -106,7 +102,7 @@ pub record IsScriptLine (line : UpdaterLine) : Type 0 where
   pub base : line.base < 2 ^ 16
   pub version : line.version < 2 ^ 32
   pub content_least : 0 < length line.content
-  pub content_most : length line.content ≤ 1048576
+  pub content_most : length line.content ≤ most_image
 
 abbrev pub LinesAreInRange : Type 0
 LinesAreInRange = (line : UpdaterLine) → IsScriptLine line → IsInRange (plan_of line) (map first_image line.receivers)

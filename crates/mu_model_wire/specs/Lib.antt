@@ -1,3 +1,5 @@
+pub mod Limits
+pub mod Statuses
 pub mod Patterns
 pub mod Fields
 pub mod Reading
@@ -14,3 +16,5 @@ pub mod Spells
 pub mod Laws
 pub mod Found
 pub mod Entries
+pub mod ReportFields
+pub mod Opcodes

@@ -1,6 +1,7 @@
 -- What octets spell by a row, or the first place where they don't.
 use Rattle.std.specs.Prelude.{◌≡◌, ℕ, zero, suc, ◌+◌, ◌*◌, ◌/◌, ◌%◌, ◌^◌, Bool, true, false, List, [], ◌∷◌, ◌++◌, length, take, drop, slice_index, Option, Some, None, Result, Ok, Err, nat_lt, ◌==◌, ◌&&◌, ◌||◌, if◌then◌else◌}
 use Rattle.byteorder.specs.Endian.{little_number}
+use Rattle.mu_model_wire.specs.Limits.{most_octets}
 use Rattle.mu_model_wire.specs.declared.Refusal.{Refusal}
 use Rattle.mu_model_wire.specs.declared.Why.{Why}
 use Rattle.mu_model_wire.specs.declared.Why.TheVariants.{Opcode, Short, Value, Long}
@@ -197,6 +198,6 @@ row_at (Some fields) opcode left = do
 -- the message that the octets spell by the rows, or the first place where they spell none
 abbrev pub message_at : List Row → List ℕ → Result Message Refusal
 message_at rows bytes =
-    if nat_lt 380 (length bytes) then refuse 380 Long else (do
+    if nat_lt most_octets (length bytes) then refuse most_octets Long else (do
       opcode ← opcode_at (record { at = 0; octets = bytes })
       row_at (fields_of rows opcode.0) opcode.0 opcode.1)

@@ -1,6 +1,7 @@
 -- The one spelling of a message with its unused bits 0, and which messages have one.
 use Rattle.std.specs.Prelude.{◌≡◌, ℕ, suc, ◌+◌, ◌*◌, ◌/◌, ◌%◌, ◌^◌, ◌<◌, ◌≤◌, Bool, false, List, [], ◌∷◌, ◌++◌, length, take, drop, Option, Some, None, nat_lt, ◌==◌, if◌then◌else◌, MatchBool, ◌⊎◌}
 use Rattle.byteorder.specs.Endian.{little_bytes}
+use Rattle.mu_model_wire.specs.Limits.{most_octets}
 use Rattle.mu_model_wire.specs.Fields.{Part, part, rfu, Field, word, num, zero_or, split, counted, whole, pattern, Fields, end, rest, repeated, ◌▹◌, when, where_left, Row, Shown, number, octets, Message}
 use Rattle.mu_model_wire.specs.Patterns.{pattern_spelling}
 use Rattle.mu_model_wire.specs.Reading.{value_of, is_one_of, fields_of}
@@ -120,4 +121,4 @@ RowFits (Some fs) m = FieldsFit fs [] m.fields m.entries
 
 -- the message is in its ranges, and its spelling isn't too long
 abbrev pub Fits : List Row → Message → Type 0
-Fits rows m = RowFits (fields_of rows m.opcode) m × (length (spelling rows m) ≤ 380)
+Fits rows m = RowFits (fields_of rows m.opcode) m × (length (spelling rows m) ≤ most_octets)

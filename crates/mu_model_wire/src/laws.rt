@@ -1,6 +1,7 @@
 //! What holds of the grammar and of every table like it: functions that do nothing, whose contracts are laws.
 ghost use Rattle.mu_model_wire.specs.Entries.{EntriesBegin, EntryIsRead, EntryIsRefused, EntriesEnd};
 ghost use Rattle.mu_model_wire.specs.Found.{NumbersAreFound, OctetsAreFound, OptionalNumberIsFound, OptionalNumberHasOneName};
+ghost use Rattle.mu_model_wire.specs.Opcodes.{OneOctetIsKept, TwoOctetsAreKept};
 ghost use Rattle.mu_model_wire.specs.Laws.{GrammarHolds, ReadsWhatIsSpelled, CanonicalSpells, CanonicalIsRead, IsOneOrTheOther};
 
 /// The grammar's rows can each be read back, and no two have one opcode.
@@ -42,4 +43,10 @@ pub fn what_is_shown_is_found()
     ensures octets { OctetsAreFound }
     ensures own { OptionalNumberIsFound }
     ensures other { OptionalNumberHasOneName }
+{}
+
+/// Octets that begin with an opcode of one octet or of two are read as a message of it, or as none, by any table.
+pub fn opcodes_are_kept()
+    ensures one { OneOctetIsKept }
+    ensures two { TwoOctetsAreKept }
 {}

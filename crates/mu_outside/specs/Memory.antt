@@ -2,6 +2,7 @@
 use Rattle.std.specs.Prelude.{◌≡◌, ℕ, ◌*◌, Bool, true, ◌<◌, ◌==◌, if◌then◌else◌, Option, Some, None, false, List, [], ◌∷◌, length, refl}
 use Rattle.std.specs.Option.{ForSome}
 use Rattle.std.proofs.Common.{subst, sym}
+use Rattle.mu_model_image.specs.Sizes.{page_octets}
 use Rattle.mu_model_flash.specs.Bits.{blank}
 use Rattle.mu_model_flash.specs.declared.Armed.{Armed}
 use Rattle.mu_model_flash.specs.declared.Pattern.{Pattern}
@@ -46,7 +47,7 @@ before_some (Some a) h = h a refl
 pub record IsNew (pages : ℕ) (f : Seen) : Type 0 where
   pub pages_are : f.pages ≡ pages
   pub told : f.told ≡ true
-  pub octets : f.octets ≡ blank (4096 * pages)
+  pub octets : f.octets ≡ blank (page_octets * pages)
   pub clock : f.clock ≡ 0
   pub armed : f.armed ≡ None
   pub on : f.off ≡ false
@@ -55,7 +56,7 @@ pub record IsNew (pages : ℕ) (f : Seen) : Type 0 where
 
 -- as a constructor makes it of octets, with the power on and none armed, where calls fail by their numbers
 pub record Holds (octets : List ℕ) (f : Seen) : Type 0 where
-  pub pages_are : 4096 * f.pages ≡ length octets
+  pub pages_are : page_octets * f.pages ≡ length octets
   pub told : f.told ≡ true
   pub octets_are : f.octets ≡ octets
   pub clock : f.clock ≡ 0

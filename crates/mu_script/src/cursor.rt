@@ -6,8 +6,9 @@ ghost use Rattle.mu_script.specs.Cursor.{Reads, Gives, token_seen};
 ghost use Rattle.mu_script.specs.View.{content};
 
 use crate::events::Content;
-use crate::octets::{address, cut, image, is_group, is_unicast, number, octets, pattern};
+use crate::octets::{address, cut, image, number, octets, pattern};
 use arrayvec::ArrayVec;
+use mu_codec::{is_group, is_unicast};
 use mu_model_flash::Pattern;
 use mu_model_script::{LineFault, LineWhy};
 use std::marker::Model;

@@ -3,7 +3,7 @@ ghost use Rattle.std.specs.Char.{is_ascii_digit};
 ghost use Rattle.std.specs.List.{list_all, position};
 ghost use Rattle.std.specs.Option.{option_copied, option_map};
 ghost use Rattle.mu_model_script.specs.Pieces.{pieces};
-ghost use Rattle.mu_model_script.specs.Tokens.{digits_value, if_within, is_unicast, is_group, number_of, address_of, octets_of, after_prefix, made_of, content_of, pattern_of};
+ghost use Rattle.mu_model_script.specs.Tokens.{digits_value, if_within, number_of, address_of, octets_of, after_prefix, made_of, content_of, pattern_of};
 ghost use Rattle.mu_script.specs.Cursor.{pieces_behind, length_behind};
 ghost use Rattle.mu_script.specs.View.{content};
 
@@ -73,18 +73,6 @@ pub(crate) fn address(octets: &[u8]) -> Option<u16>
         Ok(()) => Some(u16::from_be_bytes(address)),
         Err(_) => None,
     }
-}
-
-pub(crate) fn is_unicast(address: u16) -> bool
-    ensures { result ≡ is_unicast address }
-{
-    address >= 0x0001 && address <= 0x7FFF
-}
-
-pub(crate) fn is_group(address: u16) -> bool
-    ensures { result ≡ is_group address }
-{
-    address >= 0xC000
 }
 
 /// Octets of two hexadecimal digits each, 1 to as many as there is room for.

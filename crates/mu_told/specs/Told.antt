@@ -2,6 +2,7 @@
 use Rattle.std.specs.Prelude.{ℕ, ◌≡◌, ◌≤◌, ◌<◌, length, List, [], ◌∷◌, Option, Some, None}
 use Rattle.std.specs.Borrow.{Bor}
 use Rattle.std.specs.Option.{option_map}
+pub use Rattle.mu_model_client.specs.Places.{StepFits}
 use Rattle.mu_model_node.specs.UpdateMessages.{ShownJob}
 use Rattle.mu_model_client.specs.Answers.{Limits}
 use Rattle.mu_model_client.specs.Client.{Receiver, Step, Block, Chunks, Pull, Get, block_total}
@@ -21,14 +22,6 @@ pub record IsTold (f : Receiver → Receiver) (old new : Slot) : Type 0 where
 -- the chunks that a receiver wants are of a block with so many
 abbrev pub WantsOf : ℕ → Receiver → Type 0
 WantsOf n r = 0 < length r.wanted → length r.wanted ≡ n
-
--- a step is about one of the blocks
-abbrev pub StepFits : Sending → Step → Type 0
-StepFits p (Block b) = b < block_total p
-StepFits p (Chunks b) = b < block_total p
-StepFits p (Pull b) = b < block_total p
-StepFits p (Get b) = b < block_total p
-StepFits p _ = Unit {0}
 
 -- the ranges of what is sent (this profile)
 pub record IsSendable (p : Sending) : Type 0 where

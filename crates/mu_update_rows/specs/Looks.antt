@@ -1,5 +1,6 @@
 -- What the rows look at of a node in the model.
 use Rattle.std.specs.Prelude.{ℕ, ◌≡◌, ◌&&◌, List, [], ◌∷◌, map, Option, Some, None, is_some}
+pub use Rattle.mu_model_node.specs.There.{there}
 use Rattle.mu_model_image.specs.declared.Meta.{Meta}
 use Rattle.mu_model_node.specs.Slots.{is_full}
 use Rattle.mu_model_node.specs.NodeState.{Job, NodeState, UpdatePhase, Idle, TransferError, TransferActive, Verifying, Succeeded, Failed, Applying}
@@ -8,10 +9,6 @@ use Rattle.mu_update_rows.specs.declared.look.JobLook.{JobLook}
 use Rattle.mu_update_rows.specs.declared.look.NodeLook.{NodeLook}
 use Rattle.mu_update_rows.specs.declared.phases.Phase.{Phase}
 use Rattle.mu_update_rows.specs.declared.phases.Phase.TheVariants.{Idle as AtIdle, TransferError as AtTransferError, TransferActive as AtTransferActive, Verifying as AtVerifying, Succeeded as AtSucceeded, Failed as AtFailed, Applying as AtApplying}
-
-abbrev pub there : {A B : Type 0} → (A → B) → Option A → Option B
-there f None = None
-there f (Some a) = Some (f a)
 
 abbrev pub listed : {A : Type 0} → Option A → List A
 listed None = []

@@ -1,14 +1,10 @@
 -- A plain message tells all of the message in memory but where its lent octets lie.
-use Rattle.std.specs.Prelude.{◌≡◌, ℕ, List, map}
-use Rattle.std.specs.Borrow.{Bor}
+use Rattle.std.specs.Prelude.{◌≡◌, map}
+use Rattle.mu_codec.specs.Lent.{unplaced}
 use Rattle.mu_updmsg.specs.View.{view}
 use Rattle.mu_updmsg.specs.declared.message.Entry.{Entry}
 use Rattle.mu_updmsg.specs.declared.message.UpdMsg.{UpdMsg}
 use Rattle.mu_updmsg.specs.declared.message.UpdMsg.TheVariants.{InformationGet, InformationStatus, MetadataCheck, MetadataStatus, UpdateGet, UpdateStart, UpdateCancel, UpdateApply, UpdateStatus}
-
--- the same octets, as if they lay at one place
-abbrev pub unplaced : Bor (List ℕ) → Bor (List ℕ)
-unplaced lent = record { ref_ptr = (0, 0); now = lent.now }
 
 abbrev pub entry_content : Entry → Entry
 entry_content e = record { id = unplaced e.id; uri = unplaced e.uri }
