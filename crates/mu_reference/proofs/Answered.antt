@@ -12,8 +12,8 @@ use Rattle.mu_model_node.specs.NodeOutcome.{work_of, served}
 use Rattle.mu_model_node.specs.Events.{has_record, last_count}
 use Rattle.mu_model_node.specs.Sound.{BlobRequestFits, IsNodeState, IsPhase}
 use Rattle.mu_model_node.specs.Laws.{RequestsKeepStatesSound, PhasesAreSound, ToldPhaseIsThePhase}
-use Rattle.mu_reference.specs.declared.blob_table.Told.{Told}
-use Rattle.mu_reference.specs.BlobRows.{told_by, change_by}
+use Rattle.mu_blob_rows.specs.declared.table.Told.{Told}
+use Rattle.mu_blob_rows.specs.Rows.{told_by, change_by}
 use Rattle.mu_reference.specs.Outcomes.{is_spent}
 
 -- a phase that is the server's is the node's

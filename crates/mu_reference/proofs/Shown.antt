@@ -20,7 +20,9 @@ use Rattle.mu_model_node.specs.NodeState.{Job, NodeState, UpdatePhase, Idle, Tra
 use Rattle.mu_model_node.specs.Sound.{AreBlocks, HasBlocks, IsWhole, StoredIs, IsJob, HasJob, IsNodeState, IsTransfer, IsPhase}
 use Rattle.mu_reference.specs.Words.{ids_of}
 use Rattle.mu_reference.specs.UpdateRows.{JobIs}
-use Rattle.mu_reference.specs.Fits.{CanShow, IsShort, AreIds, HasShown, IsShown}
+use Rattle.mu_reference.specs.Fits.{IsShown}
+use Rattle.mu_update_rows.specs.Fits.{AreIds}
+use Rattle.mu_blob_answers.specs.Fits.{CanShow, IsShort, HasShown}
 
 -- ---- reports
 

@@ -1,5 +1,6 @@
 -- What the functions of the BLOB table return, as the model's outcomes.
 use Rattle.std.specs.Prelude.{ℕ, ◌≡◌, ◌<◌, true, false, List, [], length, Option, None, Some, if◌then◌else◌}
+use Rattle.mu_blob_rows.specs.Sessions.{link_by}
 use Rattle.mu_model_node.specs.declared.Parameters.{Parameters}
 use Rattle.mu_model_node.specs.BlobServer.{CurrentBlock, Session, unlinked, heard_at, linked, Server, BlobPhase, NextChunk, Change, Same, Begins, Drops, Puts}
 use Rattle.mu_model_node.specs.BlobTable.{Served, silently, tell, tell_block, receives, is_pull, to_client}
@@ -8,13 +9,8 @@ use Rattle.mu_model_node.specs.NodeOutcome.{with_session}
 use Rattle.mu_model_node.specs.Slots.{empty, at, put, is_full, joined}
 use Rattle.mu_reference.specs.View.{session_of, serving_of}
 use Rattle.mu_reference.specs.declared.blob_table.Server.{Server as ServerHere}
-use Rattle.mu_reference.specs.declared.blob_table.LinkChange.{LinkChange}
-use Rattle.mu_reference.specs.declared.blob_table.LinkChange.TheVariants.{Keeps, Hears, Links, Unlinks}
 use Rattle.mu_reference.specs.declared.blob_table.SessionChange.{SessionChange}
 use Rattle.mu_reference.specs.declared.blob_table.SessionChange.TheVariants.{Link, Holds, Opens}
-use Rattle.mu_reference.specs.declared.blob_table.TransferChange.{TransferChange}
-use Rattle.mu_reference.specs.declared.blob_table.TransferChange.TheVariants.{Nothing, Begin, Drop}
-use Rattle.mu_reference.specs.declared.blob_table.Told.{Told}
 use Rattle.mu_reference.specs.declared.blob_table.BlockTold.{BlockTold}
 use Rattle.mu_reference.specs.declared.timing.TimeStep.{TimeStep}
 use Rattle.mu_reference.specs.declared.timing.TimeStep.TheVariants.{Wait, Unlink, Ask}
@@ -24,25 +20,10 @@ use Rattle.mu_reference.specs.declared.blob_table.ChunkStep.TheVariants.{PassOve
 abbrev pub server_of : ServerHere → Server
 server_of v = record { capacity = v.capacity; serving = serving_of v.serving; session = session_of v.session.now; now = v.now }
 
--- a session after a change, at a moment, by a packet's source
-abbrev pub link_by : LinkChange → ℕ → ℕ → Session → Session
-link_by Keeps now from l = l
-link_by Hears now from l = heard_at now l
-link_by Links now from l = linked now from l
-link_by Unlinks now from l = unlinked l
-
 abbrev pub session_by : SessionChange → ℕ → ℕ → Session → Session
 session_by (Link change) now from l = link_by change now from l
 session_by (Holds block size) now from l = heard_at now (record l { last = Some (record { number = block; chunk_size = size }) })
 session_by (Opens block size count) now from l = heard_at now (record l { current = Some (record { number = block; chunk_size = size; chunks = empty count }); report = None })
-
-abbrev pub change_by : Parameters → TransferChange → Change
-change_by p Nothing = Same
-change_by p Begin = Begins p
-change_by p Drop = Drops
-
-abbrev pub told_by : Server → ℕ → Parameters → Told → Served
-told_by v to p told = tell v (link_by told.link v.now to v.session) (change_by p told.change) to told.status
 
 abbrev pub block_told_by : Server → ℕ → BlockTold → Served
 block_told_by v to told = tell_block (session_by told.session v.now to v.session) to told.status told.block told.chunk_size told.report

@@ -10,8 +10,8 @@ use Rattle.mu_model_node.specs.NodeOutcome.{work_of, served}
 use Rattle.mu_model_node.specs.Events.{has_record, last_count}
 use Rattle.mu_reference.specs.declared.recording.Stop.{Stop}
 use Rattle.mu_reference.specs.declared.recording.Stop.TheVariants.{NoMemory, Worn}
-use Rattle.mu_reference.specs.declared.blob_table.TransferChange.{TransferChange}
-use Rattle.mu_reference.specs.declared.blob_table.TransferChange.TheVariants.{Begin}
+use Rattle.mu_blob_rows.specs.declared.table.TransferChange.{TransferChange}
+use Rattle.mu_blob_rows.specs.declared.table.TransferChange.TheVariants.{Begin}
 use Rattle.mu_reference.specs.declared.blob_events.Served.{Served as ServedHere}
 
 abbrev pub blob_replies_of : Option (ℕ × BlobReply) → List (ℕ × BlobReply)

@@ -1,5 +1,6 @@
 -- What the functions of the update table return, as the model's outcomes.
 use Rattle.std.specs.Prelude.{ℕ, ◌≡◌, ◌==◌, ◌&&◌, true, false, [], ◌∷◌, Option, Some, None, Result, Ok, Err}
+use Rattle.mu_update_rows.specs.Rows.{applied_with}
 use Rattle.mu_model_node.specs.NodeMessages.{ByUpdate}
 use Rattle.mu_model_node.specs.declared.FlashWork.TheVariants.{Untouched, Recorded}
 use Rattle.mu_model_node.specs.declared.Stored.TheVariants.{Applied}
@@ -35,10 +36,6 @@ JobIs (Applying j) job = job ≡ Some j
 abbrev pub marked_applied : NodeState → Option Job → NodeState
 marked_applied s None = s
 marked_applied s (Some j) = with_job s (record j { stored = Applied })
-
-abbrev pub applied_with : NodeState → ℕ → Option Job → Outcome
-applied_with s to None = answer s Untouched to success
-applied_with s to (Some j) = answer (with_job s (record j { stored = Applied })) (Recorded false) to success
 
 -- what a row of the update table does, an Update Start's that takes apart
 abbrev pub update_stepped : NodeState → ℕ → UpdateStep → Outcome

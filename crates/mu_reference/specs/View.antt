@@ -1,11 +1,12 @@
 -- The node in memory as the model's node.
 use Rattle.std.specs.Prelude.{map, Option, Some, None}
+use Rattle.mu_blob_rows.specs.Sessions.{report_of}
+use Rattle.mu_model_node.specs.There.{there}
 use Rattle.mu_model_image.specs.Meta.{Image}
-use Rattle.mu_model_node.specs.BlobServer.{CurrentBlock, PullReport, Session, BlobPhase, Inactive, WaitingForStart, NextBlock, NextChunk, Complete, Suspended, Serving, NoJob, Lacking, Whole}
+use Rattle.mu_model_node.specs.BlobServer.{CurrentBlock, Session, BlobPhase, Inactive, WaitingForStart, NextBlock, NextChunk, Complete, Suspended, Serving, NoJob, Lacking, Whole}
 use Rattle.mu_model_node.specs.NodeState.{Job, NodeState, UpdatePhase, Idle, TransferError, TransferActive, Verifying, Succeeded, Failed, Applying, transfer_of}
 use Rattle.mu_reference.specs.declared.values.Job.{Job as JobHere}
 use Rattle.mu_reference.specs.declared.values.CurrentBlock.{CurrentBlock as CurrentBlockHere}
-use Rattle.mu_reference.specs.declared.values.PullReport.{PullReport as PullReportHere}
 use Rattle.mu_reference.specs.declared.values.Session.{Session as SessionHere}
 use Rattle.mu_reference.specs.declared.values.Image.{Image as ImageHere}
 use Rattle.mu_reference.specs.declared.values.State.{State}
@@ -16,18 +17,11 @@ use Rattle.mu_reference.specs.declared.phases.Serving.TheVariants.{NoJob as NoJo
 use Rattle.mu_reference.specs.declared.phases.BlobPhase.{BlobPhase as BlobPhaseHere}
 use Rattle.mu_reference.specs.declared.phases.BlobPhase.TheVariants.{Inactive as InactiveHere, WaitingForStart as WaitingForStartHere, NextBlock as NextBlockHere, NextChunk as NextChunkHere, Complete as CompleteHere, Suspended as SuspendedHere}
 
-abbrev pub there : {A B : Type 0} → (A → B) → Option A → Option B
-there f None = None
-there f (Some a) = Some (f a)
-
 abbrev pub job_of : JobHere → Job
 job_of j = record { id = j.id; index = j.index; meta = j.meta; ttl = j.ttl; base = j.base; stored = j.stored; parameters = j.parameters; held = j.held }
 
 abbrev pub current_of : CurrentBlockHere → CurrentBlock
 current_of c = record { number = c.number; chunk_size = c.chunk_size; chunks = c.chunks }
-
-abbrev pub report_of : PullReportHere → PullReport
-report_of r = record { moment = r.moment; chunks = r.chunks.items }
 
 abbrev pub session_of : SessionHere → Session
 session_of l = record { link = l.link; current = there current_of l.current; last = l.last; client = l.client; heard = l.heard; report = there report_of l.report }

@@ -8,13 +8,14 @@ ghost use Rattle.mu_model_node.specs.NodeState.{server_of};
 ghost use Rattle.mu_model_node.specs.NodeOutcome.{job_after, served};
 ghost use Rattle.mu_model_node.specs.Sound.{IsNodeState};
 ghost use Rattle.mu_reference.specs.View.{state_of, blob_phase_of};
-ghost use Rattle.mu_reference.specs.Fits.{CanShow, HasShown, IsShown, ShowsWhatItMay};
-ghost use Rattle.mu_reference.specs.BlobRows.{server_of as server_here, change_by, told_by};
+ghost use Rattle.mu_reference.specs.Fits.{IsShown};
+ghost use Rattle.mu_blob_answers.specs.Fits.{CanShow, HasShown, ShowsWhatItMay};
+ghost use Rattle.mu_reference.specs.BlobRows.{server_of as server_here};
+ghost use Rattle.mu_blob_rows.specs.Rows.{change_by, told_by};
 ghost use Rattle.mu_reference.specs.Outcomes.{BeginsWithin, ChangedAs};
 
-use crate::answers::BlobAnswer;
 use crate::blob_table::{Server, Told, TransferChange};
-use crate::messages::BlobReply;
+use crate::messages::{BlobAnswer, BlobReply};
 use crate::phases::{BlobPhase, serving_at, update_phase};
 use crate::recording::Stop;
 use crate::values::{Job, State};

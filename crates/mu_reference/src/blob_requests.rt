@@ -7,16 +7,16 @@ ghost use Rattle.mu_model_node.specs.BlobTable.{transfer_status, on_blob};
 ghost use Rattle.mu_model_node.specs.NodeState.{server_of, blob_phase};
 ghost use Rattle.mu_model_node.specs.Sound.{AreInRange, IsNodeState};
 ghost use Rattle.mu_reference.specs.View.{state_of, blob_phase_of};
-ghost use Rattle.mu_reference.specs.Fits.{IsShort};
-ghost use Rattle.mu_reference.specs.BlobRows.{told_by, block_told_by};
+ghost use Rattle.mu_blob_answers.specs.Fits.{IsShort};
+ghost use Rattle.mu_reference.specs.BlobRows.{block_told_by};
+ghost use Rattle.mu_blob_rows.specs.Rows.{told_by};
 ghost use Rattle.mu_reference.specs.Outcomes.{BeginsWithin, ServedAs};
 
-use crate::answers::BlobAnswer;
 use crate::blob_events::{Served, transfer_reply};
 use crate::blob_table::{
     BlockTold, Told, on_block_get, on_block_start, on_transfer_cancel, on_transfer_start,
 };
-use crate::messages::BlobReply;
+use crate::messages::{BlobAnswer, BlobReply};
 use crate::phases::BlobPhase;
 use crate::recording::Stop;
 use crate::values::State;

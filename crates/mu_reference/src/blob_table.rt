@@ -7,13 +7,16 @@ ghost use Rattle.mu_model_node.specs.BlobTable.{starts, resumes, repeats, on_tra
 ghost use Rattle.mu_model_node.specs.NodeState.{transfer_of};
 ghost use Rattle.mu_model_node.specs.Sound.{IsTransfer, IsComing, IsPhase};
 ghost use Rattle.mu_reference.specs.View.{job_of, current_of, blob_phase_of};
-ghost use Rattle.mu_reference.specs.BlobRows.{server_of, link_by, told_by, block_told_by, chunk_stepped, ReceivesWithin};
+ghost use Rattle.mu_reference.specs.BlobRows.{server_of, block_told_by, chunk_stepped, ReceivesWithin};
+ghost use Rattle.mu_blob_rows.specs.Rows.{told_by};
+ghost use Rattle.mu_blob_rows.specs.Sessions.{link_by};
 ghost use Rattle.mu_reference.specs.Outcomes.{BeginsWithin};
-ghost use Rattle.mu_reference.specs.Fits.{IsShort};
+ghost use Rattle.mu_blob_answers.specs.Fits.{IsShort};
 
 use crate::phases::{BlobPhase, Serving, blob_phase};
 use crate::values::{CurrentBlock, Job, Session};
 use mu_arith::{block_len, chunk_count, chunk_len};
+pub use mu_blob_rows::{LinkChange, Told, TransferChange};
 use mu_model_node::{Link, Parameters};
 use mu_report::{Report, report_of};
 
@@ -44,15 +47,6 @@ pub struct Server<'a> {
     pub now: u64,
 }
 
-/// What a row does to the link.
-#[derive(Clone, Copy)]
-pub enum LinkChange {
-    Keeps,
-    Hears,
-    Links,
-    Unlinks,
-}
-
 /// What a row does to the session.
 #[derive(Clone, Copy)]
 pub enum SessionChange {
@@ -66,22 +60,6 @@ pub enum SessionChange {
         chunk_size: u16,
         count: u16,
     },
-}
-
-/// What a row does to what is kept of the transfer.
-#[derive(Clone, Copy)]
-pub enum TransferChange {
-    Nothing,
-    Begin,
-    Drop,
-}
-
-/// What a row of Transfer Start or Transfer Cancel does, and the status that is told.
-#[derive(Clone, Copy)]
-pub struct Told {
-    pub link: LinkChange,
-    pub change: TransferChange,
-    pub status: u8,
 }
 
 /// What a row of Block Start or Block Get does, and the Block Status that is told.

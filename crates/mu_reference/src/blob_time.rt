@@ -8,10 +8,9 @@ ghost use Rattle.mu_reference.specs.View.{state_of};
 ghost use Rattle.mu_reference.specs.BlobRows.{time_stepped};
 ghost use Rattle.mu_reference.specs.Outcomes.{ServedAs};
 
-use crate::answers::BlobAnswer;
 use crate::blob_events::Served;
 use crate::chunks::nothing;
-use crate::messages::BlobReply;
+use crate::messages::{BlobAnswer, BlobReply};
 use crate::timing::{TimeStep, on_server_time};
 use crate::values::{PullReport, State};
 use arrayvec::ArrayVec;

@@ -5,7 +5,8 @@ ghost use Rattle.mu_model_node.specs.NodeState.{server_of, blob_phase};
 ghost use Rattle.mu_model_node.specs.BlobMessages.{ChunkTransfer};
 ghost use Rattle.mu_model_node.specs.BlobTable.{on_blob};
 ghost use Rattle.mu_model_node.specs.Sound.{IsNodeState};
-ghost use Rattle.mu_reference.specs.View.{there, state_of};
+ghost use Rattle.mu_reference.specs.View.{state_of};
+ghost use Rattle.mu_model_node.specs.There.{there};
 ghost use Rattle.mu_reference.specs.BlobRows.{chunk_stepped, ReceivesWithin, completed_by, kept_by, received_by, HasBlock, HasPlace, IsLastChunk};
 ghost use Rattle.mu_reference.specs.Outcomes.{ServedAs};
 

@@ -12,9 +12,12 @@ ghost use Rattle.mu_model_node.specs.NodeOutcome.{work_of, served};
 ghost use Rattle.mu_model_node.specs.Laws.{pages_put};
 ghost use Rattle.mu_model_node.specs.Sound.{IsNodeState};
 ghost use Rattle.mu_reference.specs.View.{state_of};
-ghost use Rattle.mu_reference.specs.BlobRows.{change_by, received_by, HasPlace};
+ghost use Rattle.mu_reference.specs.BlobRows.{received_by, HasPlace};
+ghost use Rattle.mu_blob_rows.specs.Rows.{change_by};
 ghost use Rattle.mu_reference.specs.UpdateRows.{update_stepped};
-ghost use Rattle.mu_reference.specs.Messages.{blob_request_of, update_request_of, update_start_of, request_of};
+ghost use Rattle.mu_reference.specs.Messages.{request_of};
+ghost use Rattle.mu_update_rows.specs.Messages.{update_request_of, update_start_of};
+ghost use Rattle.mu_blob_answers.specs.Messages.{blob_request_of};
 
 use crate::blob_table::{ChunkStep, TransferChange};
 use crate::chunks::pages_of;

@@ -7,10 +7,9 @@ ghost use Rattle.mu_model_node.specs.Sound.{IsNodeState};
 ghost use Rattle.mu_reference.specs.View.{image_of, state_of};
 ghost use Rattle.mu_reference.specs.Words.{ids_of};
 ghost use Rattle.mu_reference.specs.UpdateRows.{UpdatedAs};
-ghost use Rattle.mu_reference.specs.Fits.{AreIds};
+ghost use Rattle.mu_update_rows.specs.Fits.{AreIds};
 
-use crate::answers::UpdateAnswer;
-use crate::messages::UpdateReply;
+use crate::messages::{UpdateAnswer, UpdateReply};
 use crate::update_table::Updated;
 use crate::values::{Image, State};
 use arrayvec::ArrayVec;

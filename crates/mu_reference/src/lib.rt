@@ -2,7 +2,6 @@
 //! in packets and octets.
 #![tactic(auto)]
 
-mod answers;
 mod blob_events;
 mod blob_requests;
 mod blob_table;
@@ -22,13 +21,13 @@ mod timing;
 mod update_table;
 mod values;
 
-pub use answers::{BlobAnswer, UpdateAnswer};
 pub use blob_events::{Served, transfer_reply};
 pub use blob_table::{
     BlockTold, ChunkStep, LinkChange, Server, SessionChange, Told, TransferChange,
 };
 pub use messages::{
-    BlobReply, BlobRequest, Request, ShownJob, UpdateReply, UpdateRequest, UpdateStart,
+    BlobAnswer, BlobReply, BlobRequest, Request, ShownJob, UpdateAnswer, UpdateReply,
+    UpdateRequest, UpdateStart,
 };
 pub use node::{Done, Reply};
 pub use node_time::TimeKind;

@@ -7,14 +7,15 @@ ghost use Rattle.mu_model_node.specs.NodeMessages.{ByUpdate};
 ghost use Rattle.mu_model_node.specs.NodeState.{server_of};
 ghost use Rattle.mu_model_node.specs.Sound.{BlobRequestFits, RequestFits, IsNodeState};
 ghost use Rattle.mu_reference.specs.View.{state_of};
-ghost use Rattle.mu_reference.specs.Messages.{blob_request_of, update_request_of, request_of};
+ghost use Rattle.mu_reference.specs.Messages.{request_of};
+ghost use Rattle.mu_update_rows.specs.Messages.{update_request_of};
+ghost use Rattle.mu_blob_answers.specs.Messages.{blob_request_of};
 ghost use Rattle.mu_reference.specs.Outcomes.{ServedAs};
 ghost use Rattle.mu_reference.specs.UpdateRows.{UpdatedAs};
 ghost use Rattle.mu_reference.specs.NodeRows.{DoneAs, replies_of};
 
-use crate::answers::{BlobAnswer, UpdateAnswer};
 use crate::blob_events::Served;
-use crate::messages::{BlobRequest, Request, UpdateRequest};
+use crate::messages::{BlobAnswer, BlobRequest, Request, UpdateAnswer, UpdateRequest};
 use crate::node_time::serving;
 use crate::recording::Stop;
 use crate::update_table::Updated;

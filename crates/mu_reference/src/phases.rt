@@ -2,7 +2,8 @@
 ghost use Rattle.std.specs.Prelude.{◌≡◌};
 ghost use Rattle.mu_model_node.specs.BlobServer.{serving_phase};
 ghost use Rattle.mu_model_node.specs.NodeState.{link_phase, filling_phase, job_phase, serving_in};
-ghost use Rattle.mu_reference.specs.View.{there, job_of, session_of, update_phase_of, serving_of, blob_phase_of};
+ghost use Rattle.mu_reference.specs.View.{job_of, session_of, update_phase_of, serving_of, blob_phase_of};
+ghost use Rattle.mu_model_node.specs.There.{there};
 ghost use Rattle.mu_reference.specs.UpdateRows.{JobIs};
 
 use crate::values::{CurrentBlock, Job, Session};

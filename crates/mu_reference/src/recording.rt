@@ -4,7 +4,8 @@ ghost use Rattle.mu_model_node.specs.BlobServer.{Begins, Drops};
 ghost use Rattle.mu_model_node.specs.FlashWork.{fresh_after};
 ghost use Rattle.mu_model_node.specs.Events.{last_count};
 ghost use Rattle.mu_model_node.specs.NodeOutcome.{recorded, job_after};
-ghost use Rattle.mu_reference.specs.View.{there, job_of, state_of};
+ghost use Rattle.mu_reference.specs.View.{job_of, state_of};
+ghost use Rattle.mu_model_node.specs.There.{there};
 
 use crate::slots::Slots;
 use crate::values::State;

@@ -2,7 +2,8 @@
 ghost use Rattle.std.specs.Prelude.{◌≡◌, IfOk, OnErr};
 ghost use Rattle.mu_model_node.specs.BlobServer.{asleep, unlinked, made_ready};
 ghost use Rattle.mu_reference.specs.View.{session_of};
-ghost use Rattle.mu_reference.specs.BlobRows.{link_by, session_by};
+ghost use Rattle.mu_reference.specs.BlobRows.{session_by};
+ghost use Rattle.mu_blob_rows.specs.Sessions.{link_by};
 
 use crate::blob_table::{LinkChange, SessionChange};
 use crate::slots::Slots;

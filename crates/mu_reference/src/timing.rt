@@ -6,7 +6,9 @@ ghost use Rattle.mu_model_node.specs.Slots.{at};
 ghost use Rattle.mu_model_node.specs.BlobServer.{Server as ServerModel, server_phase};
 ghost use Rattle.mu_model_node.specs.BlobTable.{timeout, is_due, asked_for, pulls, waits, on_server_time};
 ghost use Rattle.mu_model_node.specs.Sound.{IsPhase};
-ghost use Rattle.mu_reference.specs.View.{there, report_of, current_of, blob_phase_of};
+ghost use Rattle.mu_reference.specs.View.{current_of, blob_phase_of};
+ghost use Rattle.mu_model_node.specs.There.{there};
+ghost use Rattle.mu_blob_rows.specs.Sessions.{report_of};
 ghost use Rattle.mu_reference.specs.BlobRows.{server_of, time_stepped};
 
 use crate::blob_table::Server;

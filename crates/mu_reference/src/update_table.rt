@@ -5,14 +5,14 @@ ghost use Rattle.mu_model_node.specs.NodeOutcome.{with_session, with_job};
 ghost use Rattle.mu_model_node.specs.Events.{last_count};
 ghost use Rattle.mu_model_node.specs.NodeState.{update_phase, update_number};
 ghost use Rattle.mu_model_node.specs.UpdateTable.{status_of, update_status, same_meta, same_start, new_job, check, without_job, takes, on_update, on_update_start, on_update_cancel, on_update_apply};
-ghost use Rattle.mu_reference.specs.View.{there, job_of, state_of, update_phase_of};
-ghost use Rattle.mu_reference.specs.Messages.{update_start_of};
+ghost use Rattle.mu_reference.specs.View.{job_of, state_of, update_phase_of};
+ghost use Rattle.mu_model_node.specs.There.{there};
+ghost use Rattle.mu_update_rows.specs.Messages.{update_start_of};
 ghost use Rattle.mu_reference.specs.UpdateRows.{JobIs, UpdatedAs, update_stepped, start_stepped, marked_applied};
 ghost use Rattle.mu_reference.specs.Fits.{IsKnown};
 ghost use Rattle.mu_model_node.specs.UpdateMessages.{MetadataCheck, UpdateGet, StartUpdate, UpdateCancel, UpdateApply};
 
-use crate::answers::UpdateAnswer;
-use crate::messages::{ShownJob, UpdateReply, UpdateStart};
+use crate::messages::{ShownJob, UpdateAnswer, UpdateReply, UpdateStart};
 use crate::phases::{UpdatePhase, update_phase};
 use crate::recording::Stop;
 use crate::slots::Slots;

@@ -1,6 +1,6 @@
 // What a node keeps and what it has while it runs, as plain values.
 use crate::slots::Slots;
-use arrayvec::ArrayVec;
+pub use mu_blob_rows::PullReport;
 use mu_image::Meta;
 use mu_model_node::{LastBlock, Link, Parameters, Stored};
 
@@ -29,14 +29,6 @@ pub struct CurrentBlock {
     pub chunk_size: u16,
     /// A place for each chunk.
     pub chunks: Slots,
-}
-
-/// The last Partial Block Report.
-#[derive(Drop)]
-pub struct PullReport {
-    /// When it was sent, in milliseconds.
-    pub moment: u64,
-    pub chunks: ArrayVec<u16, 16>,
 }
 
 /// What isn't kept over a power cut.

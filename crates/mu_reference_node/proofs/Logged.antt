@@ -2,7 +2,7 @@
 use Rattle.std.proofs.Common.{◌≡◌, ℕ, List, refl, sym, ap, ◌∙◌, Option, Some, None}
 use Rattle.mu_model_node.specs.NodeState.{Job, NodeState, update_phase, update_number}
 use Rattle.mu_model_node.specs.Log.{LogEntry, logged_by, logged}
-use Rattle.mu_reference.specs.View.{there}
+use Rattle.mu_model_node.specs.There.{there}
 use Rattle.mu_reference_node.specs.Logging.{bare}
 
 bare_logged : (old new : Option Job) (before after : ℕ) → logged_by (there bare old) (there bare new) before after ≡ logged_by old new before after

@@ -2,7 +2,7 @@
 use Rattle.std.specs.Prelude.{ℕ, List, [], ◌∷◌, Option, Some, None}
 use Rattle.mu_model_node.specs.NodeState.{Job}
 use Rattle.mu_model_node.specs.Log.{LogEntry, Took as TookEntry, Asked as AskedEntry, Active as ActiveEntry, Canceled as CanceledEntry, Reached as ReachedEntry}
-use Rattle.mu_reference.specs.View.{there}
+use Rattle.mu_model_node.specs.There.{there}
 use Rattle.mu_reference_node.specs.declared.logging.What.{What}
 use Rattle.mu_reference_node.specs.declared.logging.What.TheVariants.{Took, Asked, Active, Canceled, Reached}
 use Rattle.mu_reference_node.specs.declared.logging.JobGlance.{JobGlance}

@@ -3,7 +3,8 @@ ghost use Rattle.std.specs.Prelude.{◌≡◌, ◌<◌, ◌≤◌, ◌+◌, ◌+
 ghost use Rattle.mu_model_node.specs.NodeState.{update_phase, update_number};
 ghost use Rattle.mu_model_node.specs.Log.{same_job, reopened, is_new, took, asked, gone, was_there, reached, logged_by};
 ghost use Rattle.mu_model_node.specs.UpdateTable.{same_meta};
-ghost use Rattle.mu_reference.specs.View.{there, state_of};
+ghost use Rattle.mu_reference.specs.View.{state_of};
+ghost use Rattle.mu_model_node.specs.There.{there};
 ghost use Rattle.mu_reference_node.specs.Logging.{what_of, listed, bare, seen, job_seen};
 ghost use Rattle.arrayvec.specs.ArrayVec.{array_vec_len};
 

@@ -10,8 +10,10 @@ ghost use Rattle.mu_model_node.specs.BlobMessages.{blob_request_of as blob_reque
 ghost use Rattle.mu_model_node.specs.UpdateMessages.{update_request_of as update_request_in};
 ghost use Rattle.mu_model_node.specs.NodeMessages.{request_in, request_at};
 ghost use Rattle.mu_model_node.specs.Sound.{RequestFits};
-ghost use Rattle.mu_reference.specs.View.{there};
-ghost use Rattle.mu_reference.specs.Messages.{blob_request_of, update_request_of, request_of};
+ghost use Rattle.mu_model_node.specs.There.{there};
+ghost use Rattle.mu_reference.specs.Messages.{request_of};
+ghost use Rattle.mu_update_rows.specs.Messages.{update_request_of};
+ghost use Rattle.mu_blob_answers.specs.Messages.{blob_request_of};
 
 use mu_access::{Part, part_of};
 use mu_blobmsg::BlobMsg;

@@ -3,7 +3,7 @@ use Rattle.mu_model_node.specs.NodeState.{transfer_of}
 use Rattle.mu_model_node.specs.Sound.{IsPhase}
 use Rattle.mu_reference.specs.View.{job_of, current_of, blob_phase_of}
 use Rattle.mu_reference.specs.declared.phases.BlobPhase.{BlobPhase}
-use Rattle.mu_reference.specs.Fits.{IsShort}
+use Rattle.mu_blob_answers.specs.Fits.{IsShort}
 use Rattle.mu_reference.specs.declared.blob_table.BlockTold.{BlockTold}
 use Rattle.mu_reference.proofs.Shown.{chunks_are_short}
 use Rattle.mu_reference.proofs.blob_table.on_block_start.Goals as goal

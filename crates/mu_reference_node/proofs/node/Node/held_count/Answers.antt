@@ -1,6 +1,7 @@
 use Rattle.std.proofs.Common.{◌≤◌, ap, arith, ◌∙◌}
 use Rattle.mu_model_node.specs.Slots.{held_count}
-use Rattle.mu_reference.specs.View.{there, job_of, state_of}
+use Rattle.mu_reference.specs.View.{job_of, state_of}
+use Rattle.mu_model_node.specs.There.{there}
 use Rattle.mu_reference_node.proofs.Held.{few_held}
 use Rattle.mu_reference_node.proofs.node.Node.held_count.Goals as goal
 
