@@ -2,6 +2,7 @@
 -- 0009; it has 61 62 63 as version 2 sent to 0002 and 0003 in the group C000, by pull, and applied.
 use Rattle.std.specs.Prelude.{ℕ, ◌≡◌, ◌++◌, ◌+◌, ◌-◌, Bool, true, false, List, [], ◌∷◌, length, map, take, Option, nat_le, if◌then◌else◌}
 use Rattle.std.specs.List.{flat_map}
+pub use Rattle.mu_model_scenes.specs.Octets.{distribution_cancel, distribution_get, receivers_delete_all, upload_get}
 use Rattle.mu_model_wire.specs.Packet.{Packet}
 use Rattle.mu_model_node.specs.Worked.{digest_abc}
 use Rattle.mu_model_client.specs.declared.InitEnd.{InitEnd}
@@ -64,23 +65,11 @@ firmware_id = (0xff ∷ 0xff ∷ 2 ∷ 0 ∷ 0 ∷ 0 ∷ []) ++ digest_abc
 abbrev pub upload_start : List ℕ
 upload_start = (0x83 ∷ 0x1f ∷ 5 ∷ 0 ∷ 0 ∷ []) ++ (id_of 7 ++ ((3 ∷ 0 ∷ 0 ∷ 0 ∷ 40 ∷ []) ++ (metadata ++ firmware_id)))
 
-abbrev pub upload_get : List ℕ
-upload_get = 0x83 ∷ 0x1e ∷ []
-
-abbrev pub distribution_cancel : List ℕ
-distribution_cancel = 0x83 ∷ 0x1b ∷ []
-
-abbrev pub receivers_delete_all : List ℕ
-receivers_delete_all = 0x83 ∷ 0x12 ∷ []
-
 abbrev pub receivers_add : List ℕ
 receivers_add = 0x83 ∷ 0x11 ∷ 2 ∷ 0 ∷ 0 ∷ 3 ∷ 0 ∷ 0 ∷ []
 
 abbrev pub firmware_get : List ℕ
 firmware_get = 0x83 ∷ 0x23 ∷ firmware_id
-
-abbrev pub distribution_get : List ℕ
-distribution_get = 0x83 ∷ 0x18 ∷ []
 
 -- ---- what is answered
 

@@ -1,6 +1,9 @@
 -- Of worked rows: what comes to a client, octet by octet, and what is seen of it. The client is an updater at 0001 that offers
 -- 61 62 63 as version 2 under BLOB ID 1_0000_0000_0007 to 0002, and applies it; a round has 4,100 milliseconds.
 use Rattle.std.specs.Prelude.{ℕ, Bool, replicate, true, ◌≡◌, ◌++◌, ◌/◌, ◌%◌, List, [], ◌∷◌, map, Option}
+pub use Rattle.mu_model_node.specs.Worked.{update_apply, update_get}
+pub use Rattle.mu_model_scenes.specs.Octets.{blob_information_get, block_get, block_start, high, low, id_of, information_get, transfer_start, update_cancel}
+pub use Rattle.mu_model_client_laws.specs.Worked.{drops_of, image}
 use Rattle.mu_model_wire.specs.Packet.{Packet}
 use Rattle.mu_model_node.specs.Worked.{digest_abc}
 use Rattle.mu_model_client.specs.declared.Plan.{Plan}
@@ -42,9 +45,6 @@ shown row = row.phase ∷ row.update_status ∷ row.transfer_status ∷ row.prog
 
 abbrev pub rows_of : Client → List (List ℕ)
 rows_of c = map shown (rows c)
-
-abbrev pub drops_of : Client → List (Option Dropped)
-drops_of c = map (λ (r : Receiver). cause_of r.standing) c.receivers
 
 abbrev pub packets_of : ClientStep → List (ℕ × List ℕ)
 packets_of step = map (λ (p : Packet). (p.to, p.payload)) step.sent
@@ -98,16 +98,10 @@ plan mode = record {
   apply = true;
 }
 
-abbrev pub image : List ℕ
-image = 0x61 ∷ 0x62 ∷ 0x63 ∷ []
-
 abbrev pub client : (mode : ℕ) → Client
 client mode = start (plan mode) ((2, 0) ∷ [])
 
 -- ---- what is sent
-
-abbrev pub id_of : ℕ → List ℕ
-id_of id = id ∷ 0 ∷ 0 ∷ 0 ∷ 0 ∷ 0 ∷ 1 ∷ 0 ∷ []
 
 abbrev pub metadata : List ℕ
 metadata = (3 ∷ 0 ∷ 0 ∷ 0 ∷ 2 ∷ 0 ∷ 0 ∷ 0 ∷ []) ++ digest_abc
@@ -118,32 +112,8 @@ metadata_check = 0x83 ∷ 0x0a ∷ 0 ∷ metadata
 abbrev pub update_start : List ℕ
 update_start = (0x83 ∷ 0x0d ∷ 5 ∷ 0 ∷ 0 ∷ []) ++ (id_of 7 ++ (0 ∷ metadata))
 
-abbrev pub blob_information_get : List ℕ
-blob_information_get = 0x83 ∷ 0x06 ∷ []
-
-abbrev pub transfer_start : List ℕ
-transfer_start = (0x83 ∷ 0x01 ∷ 0x40 ∷ []) ++ (id_of 7 ++ (3 ∷ 0 ∷ 0 ∷ 0 ∷ 12 ∷ 0x7c ∷ 1 ∷ []))
-
-abbrev pub block_start : List ℕ
-block_start = 0x83 ∷ 0x04 ∷ 0 ∷ 0 ∷ 200 ∷ 0 ∷ []
-
 abbrev pub chunk : List ℕ
 chunk = 0x66 ∷ 0 ∷ 0 ∷ image
-
-abbrev pub block_get : List ℕ
-block_get = 0x83 ∷ 0x05 ∷ []
-
-abbrev pub update_get : List ℕ
-update_get = 0x83 ∷ 0x0c ∷ []
-
-abbrev pub update_apply : List ℕ
-update_apply = 0x83 ∷ 0x0f ∷ []
-
-abbrev pub update_cancel : List ℕ
-update_cancel = 0x83 ∷ 0x0e ∷ []
-
-abbrev pub information_get : List ℕ
-information_get = 0x83 ∷ 0x08 ∷ 0 ∷ 1 ∷ []
 
 -- ---- what is answered
 
@@ -156,12 +126,6 @@ update_status first id = (0x83 ∷ 0x10 ∷ first ∷ 5 ∷ 0 ∷ 0 ∷ 0 ∷ []
 
 abbrev pub no_job_status : ℕ → List ℕ
 no_job_status status = 0x83 ∷ 0x10 ∷ status ∷ []
-
-abbrev pub low : ℕ → ℕ
-low number = number % 256
-
-abbrev pub high : ℕ → ℕ
-high number = number / 256
 
 -- a BLOB Information Status; push and pull are the bits of the last octet
 abbrev pub limits : (least_log most_log most_chunks most_chunk size mtu modes : ℕ) → List ℕ

@@ -1,6 +1,7 @@
 -- Worked rows: whole updates, turn by turn.
 use Rattle.std.specs.Prelude.{ℕ, ◌≡◌, Bool, true, List, [], ◌∷◌, map, replicate, Option, Some, None}
 use Rattle.std.specs.List.{flat_map}
+pub use Rattle.mu_model_client_laws.specs.Worked.{shown}
 use Rattle.mu_model_node.specs.NodeState.{Job, new_node, restarted}
 use Rattle.mu_model_node.specs.Slots.{held_count}
 use Rattle.mu_model_node.specs.Worked.{image_a, image_abc}
@@ -24,10 +25,6 @@ plan_abc = record { sending = sending_abc; meta = image_abc.meta; apply = true }
 
 abbrev pub updater_abc : Member
 updater_abc = record { config = record { address = 1; group = 0 }; moment = 0; part = IsUpdater (start plan_abc ((2, 0) ∷ [])) image_abc.octets }
-
--- phase, statuses and progress of each row of an updater
-abbrev pub shown : Row → List ℕ
-shown row = row.phase ∷ row.update_status ∷ row.transfer_status ∷ row.progress ∷ []
 
 abbrev pub rows_in : Part → List (List ℕ)
 rows_in (IsNode s) = []

@@ -1,6 +1,8 @@
 -- Of worked rows: what comes to a distributor, octet by octet, and what is seen of it. The distributor is at 0001, its receiver at
 -- 0002, and a stranger at 0009. The image is 61 62 63: version 2 is stocked, version 3 is uploaded.
 use Rattle.std.specs.Prelude.{ℕ, ◌++◌, List, [], ◌∷◌, length, map, replicate, slice_index}
+pub use Rattle.mu_model_node.specs.Worked.{block_start, transfer_start}
+pub use Rattle.mu_model_scenes.specs.Octets.{receivers_delete_all, capabilities_get, distribution_get, distribution_suspend, distribution_cancel, distribution_apply, upload_get, upload_cancel, firmware_delete_all}
 use Rattle.mu_model_wire.specs.Packet.{Packet}
 use Rattle.mu_model_node.specs.Events.{NodeEvent, PacketComes, TimeComes}
 use Rattle.mu_model_node.specs.Safe.{Happening, Done}
@@ -34,17 +36,8 @@ time_passes now = Done TimeComes now
 abbrev pub receivers_add : ℕ → List ℕ
 receivers_add index = 0x83 ∷ 0x11 ∷ 2 ∷ 0 ∷ index ∷ []
 
-abbrev pub receivers_delete_all : List ℕ
-receivers_delete_all = 0x83 ∷ 0x12 ∷ []
-
 abbrev pub receivers_get : List ℕ
 receivers_get = 0x83 ∷ 0x14 ∷ 0 ∷ 0 ∷ 9 ∷ 0 ∷ []
-
-abbrev pub capabilities_get : List ℕ
-capabilities_get = 0x83 ∷ 0x16 ∷ []
-
-abbrev pub distribution_get : List ℕ
-distribution_get = 0x83 ∷ 0x18 ∷ []
 
 -- a TTL, an octet of mode and policy, the image of an index, and the upper octet of a group
 abbrev pub distribution_start_of : ℕ → ℕ → ℕ → ℕ → List ℕ
@@ -61,18 +54,6 @@ distribution_start image = distribution_start_by 5 image
 abbrev pub label_start : List ℕ
 label_start = (0x83 ∷ 0x19 ∷ 0 ∷ 0 ∷ 5 ∷ 0 ∷ 0 ∷ 5 ∷ 0 ∷ 0 ∷ []) ++ replicate 16 7
 
-abbrev pub distribution_suspend : List ℕ
-distribution_suspend = 0x83 ∷ 0x1a ∷ []
-
-abbrev pub distribution_cancel : List ℕ
-distribution_cancel = 0x83 ∷ 0x1b ∷ []
-
-abbrev pub distribution_apply : List ℕ
-distribution_apply = 0x83 ∷ 0x1c ∷ []
-
-abbrev pub upload_get : List ℕ
-upload_get = 0x83 ∷ 0x1e ∷ []
-
 -- the Firmware ID of a version of 61 62 63
 abbrev pub id_at : ℕ → List ℕ
 id_at version = (0xff ∷ 0xff ∷ version ∷ 0 ∷ 0 ∷ 0 ∷ []) ++ digest_abc
@@ -86,9 +67,6 @@ upload_start ttl version =
 abbrev pub upload_start_of : List ℕ → ℕ → List ℕ → List ℕ → List ℕ
 upload_start_of size len metadata fwid = (0x83 ∷ 0x1f ∷ 5 ∷ 0 ∷ 0 ∷ []) ++ (id7 ++ (size ++ ((0 ∷ 0 ∷ len ∷ []) ++ (metadata ++ fwid))))
 
-abbrev pub upload_cancel : List ℕ
-upload_cancel = 0x83 ∷ 0x21 ∷ []
-
 abbrev pub firmware_get : ℕ → List ℕ
 firmware_get version = (0x83 ∷ 0x23 ∷ []) ++ id_at version
 
@@ -97,15 +75,6 @@ firmware_get_by_index index = 0x83 ∷ 0x24 ∷ index ∷ 0 ∷ []
 
 abbrev pub firmware_delete : ℕ → List ℕ
 firmware_delete version = (0x83 ∷ 0x25 ∷ []) ++ id_at version
-
-abbrev pub firmware_delete_all : List ℕ
-firmware_delete_all = 0x83 ∷ 0x26 ∷ []
-
-abbrev pub transfer_start : List ℕ
-transfer_start = (0x83 ∷ 0x01 ∷ 0x40 ∷ []) ++ (id7 ++ (3 ∷ 0 ∷ 0 ∷ 0 ∷ 0x0c ∷ 0x7c ∷ 1 ∷ []))
-
-abbrev pub block_start : List ℕ
-block_start = 0x83 ∷ 0x04 ∷ 0 ∷ 0 ∷ 8 ∷ 0 ∷ []
 
 -- 61 62 and this octet
 abbrev pub chunk : ℕ → List ℕ

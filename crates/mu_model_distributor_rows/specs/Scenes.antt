@@ -3,6 +3,9 @@
 -- under BLOB ID 9_0000_0000_0007.
 use Rattle.std.specs.Prelude.{ℕ, ◌≡◌, ◌++◌, ◌*◌, ◌/◌, ◌%◌, Bool, true, false, List, [], ◌∷◌, length, map, replicate, take}
 use Rattle.std.specs.List.{flat_map}
+pub use Rattle.mu_model_node.specs.Worked.{chunk, update_apply, update_get}
+pub use Rattle.mu_model_scenes.specs.Octets.{blob_information_get, block_get, block_start, high, low, information_get, metadata_status, other_chunk, transfer_get, update_cancel, receivers_delete_all, capabilities_get, distribution_get, distribution_suspend, distribution_cancel, distribution_apply, upload_get, upload_cancel, firmware_delete_all}
+pub use Rattle.mu_model_distributor_laws.specs.Scenes.{id_at}
 use Rattle.mu_model_image.specs.Meta.{Image}
 use Rattle.mu_model_wire.specs.Packet.{Packet}
 use Rattle.mu_model_node.specs.Events.{PacketComes, TimeComes}
@@ -102,10 +105,6 @@ asks payload reply after rows = (comes 9 payload, (9, reply) ∷ [], after, rows
 abbrev pub id_of : ℕ → List ℕ
 id_of id = id ∷ 0 ∷ 0 ∷ 0 ∷ 0 ∷ 0 ∷ 9 ∷ 0 ∷ []
 
--- the Firmware ID of a version
-abbrev pub id_at : ℕ → List ℕ
-id_at version = (0xff ∷ 0xff ∷ version ∷ 0 ∷ 0 ∷ 0 ∷ []) ++ digest_abc
-
 abbrev pub metadata : ℕ → List ℕ
 metadata version = (3 ∷ 0 ∷ 0 ∷ 0 ∷ version ∷ 0 ∷ 0 ∷ 0 ∷ []) ++ digest_abc
 
@@ -113,17 +112,8 @@ metadata version = (3 ∷ 0 ∷ 0 ∷ 0 ∷ version ∷ 0 ∷ 0 ∷ 0 ∷ []) ++
 abbrev pub receivers_add : List ℕ → List ℕ
 receivers_add addresses = 0x83 ∷ 0x11 ∷ flat_map (λ address. address ∷ 0 ∷ 0 ∷ []) addresses
 
-abbrev pub receivers_delete_all : List ℕ
-receivers_delete_all = 0x83 ∷ 0x12 ∷ []
-
 abbrev pub receivers_get : (first limit : ℕ) → List ℕ
 receivers_get first limit = 0x83 ∷ 0x14 ∷ first ∷ 0 ∷ limit ∷ 0 ∷ []
-
-abbrev pub capabilities_get : List ℕ
-capabilities_get = 0x83 ∷ 0x16 ∷ []
-
-abbrev pub distribution_get : List ℕ
-distribution_get = 0x83 ∷ 0x18 ∷ []
 
 -- mode and policy in one octet; the upper octet of the group
 abbrev pub distribution_start : (appkey ttl base means image group : ℕ) → List ℕ
@@ -131,18 +121,6 @@ distribution_start appkey ttl base means image group = 0x83 ∷ 0x19 ∷ appkey 
 
 abbrev pub label_start_of : (image : ℕ) → List ℕ
 label_start_of image = (0x83 ∷ 0x19 ∷ 0 ∷ 0 ∷ 5 ∷ 0 ∷ 0 ∷ 5 ∷ image ∷ 0 ∷ []) ++ replicate 16 7
-
-abbrev pub distribution_suspend : List ℕ
-distribution_suspend = 0x83 ∷ 0x1a ∷ []
-
-abbrev pub distribution_cancel : List ℕ
-distribution_cancel = 0x83 ∷ 0x1b ∷ []
-
-abbrev pub distribution_apply : List ℕ
-distribution_apply = 0x83 ∷ 0x1c ∷ []
-
-abbrev pub upload_get : List ℕ
-upload_get = 0x83 ∷ 0x1e ∷ []
 
 abbrev pub upload_by : (ttl id : ℕ) → (size metadata firmware_id : List ℕ) → List ℕ
 upload_by ttl id size metadata firmware_id =
@@ -168,9 +146,6 @@ large_upload_start = upload_by 5 7 (1 ∷ 0x10 ∷ 0 ∷ 0 ∷ []) ((1 ∷ 0x10 
 abbrev pub upload_start_oob : List ℕ
 upload_start_oob = 0x83 ∷ 0x20 ∷ 1 ∷ 0x78 ∷ id_at 3
 
-abbrev pub upload_cancel : List ℕ
-upload_cancel = 0x83 ∷ 0x21 ∷ []
-
 abbrev pub firmware_get : (version : ℕ) → List ℕ
 firmware_get version = 0x83 ∷ 0x23 ∷ id_at version
 
@@ -180,32 +155,11 @@ firmware_get_by_index index = 0x83 ∷ 0x24 ∷ index ∷ 0 ∷ []
 abbrev pub firmware_delete : (version : ℕ) → List ℕ
 firmware_delete version = 0x83 ∷ 0x25 ∷ id_at version
 
-abbrev pub firmware_delete_all : List ℕ
-firmware_delete_all = 0x83 ∷ 0x26 ∷ []
-
-abbrev pub transfer_get : List ℕ
-transfer_get = 0x83 ∷ 0x00 ∷ []
-
 abbrev pub transfer_start : List ℕ
 transfer_start = (0x83 ∷ 0x01 ∷ 0x40 ∷ []) ++ (id_of 7 ++ (3 ∷ 0 ∷ 0 ∷ 0 ∷ 12 ∷ 0x7c ∷ 1 ∷ []))
 
 abbrev pub transfer_cancel : List ℕ
 transfer_cancel = (0x83 ∷ 0x02 ∷ []) ++ id_of 7
-
-abbrev pub block_start : List ℕ
-block_start = 0x83 ∷ 0x04 ∷ 0 ∷ 0 ∷ 200 ∷ 0 ∷ []
-
-abbrev pub block_get : List ℕ
-block_get = 0x83 ∷ 0x05 ∷ []
-
-abbrev pub blob_information_get : List ℕ
-blob_information_get = 0x83 ∷ 0x06 ∷ []
-
-abbrev pub chunk : List ℕ
-chunk = 0x66 ∷ 0 ∷ 0 ∷ 0x61 ∷ 0x62 ∷ 0x63 ∷ []
-
-abbrev pub other_chunk : List ℕ
-other_chunk = 0x66 ∷ 0 ∷ 0 ∷ 0x61 ∷ 0x62 ∷ 0x64 ∷ []
 
 -- ---- answers
 
@@ -224,12 +178,6 @@ no_upload status = 0x83 ∷ 0x22 ∷ status ∷ 0 ∷ []
 
 abbrev pub upload_status : (status phase progress version : ℕ) → List ℕ
 upload_status status phase progress version = 0x83 ∷ 0x22 ∷ status ∷ phase ∷ progress ∷ id_at version
-
-abbrev pub low : ℕ → ℕ
-low number = number % 256
-
-abbrev pub high : ℕ → ℕ
-high number = number / 256
 
 abbrev pub firmware_status : (status count index : ℕ) → (firmware_id : List ℕ) → List ℕ
 firmware_status status count index firmware_id = (0x83 ∷ 0x27 ∷ status ∷ count ∷ 0 ∷ low index ∷ high index ∷ []) ++ firmware_id
@@ -251,21 +199,6 @@ update_start number = (0x83 ∷ 0x0d ∷ 5 ∷ 0 ∷ 0 ∷ []) ++ (transfer_id n
 
 abbrev pub transfer_of : (number : ℕ) → List ℕ
 transfer_of number = (0x83 ∷ 0x01 ∷ 0x40 ∷ []) ++ (transfer_id number ++ (3 ∷ 0 ∷ 0 ∷ 0 ∷ 12 ∷ 0x7c ∷ 1 ∷ []))
-
-abbrev pub update_get : List ℕ
-update_get = 0x83 ∷ 0x0c ∷ []
-
-abbrev pub update_apply : List ℕ
-update_apply = 0x83 ∷ 0x0f ∷ []
-
-abbrev pub update_cancel : List ℕ
-update_cancel = 0x83 ∷ 0x0e ∷ []
-
-abbrev pub information_get : List ℕ
-information_get = 0x83 ∷ 0x08 ∷ 0 ∷ 1 ∷ []
-
-abbrev pub metadata_status : List ℕ
-metadata_status = 0x83 ∷ 0x0b ∷ 0 ∷ 0 ∷ []
 
 abbrev pub metadata_refused : (status : ℕ) → List ℕ
 metadata_refused status = 0x83 ∷ 0x0b ∷ status ∷ 0 ∷ []

@@ -1,6 +1,8 @@
 -- Of worked rows: what comes to a node, octet by octet, and what is seen of it. The node is at 0002 and has the octet 61 as its
 -- image of version 1; a stranger at 0001 offers 61 62 63 as version 2.
 use Rattle.std.specs.Prelude.{ℕ, ◌≡◌, ◌++◌, List, [], ◌∷◌, map}
+pub use Rattle.mu_model_node.specs.Worked.{heard, said, update_apply, update_get}
+pub use Rattle.mu_model_scenes.specs.Octets.{blob_information_get, block_get, id_of, transfer_get, update_cancel}
 use Rattle.mu_model_wire.specs.Packet.{Packet}
 use Rattle.mu_model_node.specs.NodeState.{NodeState, update_phase, update_number, blob_phase}
 use Rattle.mu_model_node.specs.BlobServer.{blob_number}
@@ -25,9 +27,6 @@ row_of s event = (event, map (λ (p : Packet). p.payload) (node_step node_two s 
 abbrev pub Answers : NodeState → List Row → Type 0
 Answers s rows = map (λ (row : Row). row_of s row.0) rows ≡ rows
 
-abbrev pub heard : List ℕ → NodeEvent
-heard payload = PacketComes (record { from = 1; to = 2; payload = payload })
-
 -- a payload and its one answer, or none
 abbrev pub row : List ℕ → List ℕ → List ℕ → Row
 row payload reply after = (heard payload, reply ∷ [], after)
@@ -40,9 +39,6 @@ time after = (TimeComes, [], after)
 
 -- ---- what comes
 
-abbrev pub id_of : ℕ → List ℕ
-id_of id = id ∷ 0 ∷ 0 ∷ 0 ∷ 0 ∷ 0 ∷ 1 ∷ 0 ∷ []
-
 -- size and version in four octets each, and the digest of 61 62 63
 abbrev pub metadata : (size_low size_high version : ℕ) → List ℕ
 metadata size_low size_high version = (size_low ∷ size_high ∷ 0 ∷ 0 ∷ version ∷ 0 ∷ 0 ∷ 0 ∷ []) ++ digest_abc
@@ -53,27 +49,12 @@ information_get first limit = 0x83 ∷ 0x08 ∷ first ∷ limit ∷ []
 abbrev pub metadata_check : (index : ℕ) → List ℕ → List ℕ
 metadata_check index offered = 0x83 ∷ 0x0a ∷ index ∷ offered
 
-abbrev pub update_get : List ℕ
-update_get = 0x83 ∷ 0x0c ∷ []
-
 abbrev pub start : (ttl base id index : ℕ) → List ℕ → List ℕ
 start ttl base id index offered = (0x83 ∷ 0x0d ∷ ttl ∷ base ∷ 0 ∷ []) ++ (id_of id ++ (index ∷ offered))
 
 -- the job of these rows
 abbrev pub update_start : List ℕ
 update_start = start 5 0 7 0 (metadata 3 0 2)
-
-abbrev pub update_cancel : List ℕ
-update_cancel = 0x83 ∷ 0x0e ∷ []
-
-abbrev pub update_apply : List ℕ
-update_apply = 0x83 ∷ 0x0f ∷ []
-
-abbrev pub blob_information_get : List ℕ
-blob_information_get = 0x83 ∷ 0x06 ∷ []
-
-abbrev pub transfer_get : List ℕ
-transfer_get = 0x83 ∷ 0x00 ∷ []
 
 -- a mode in its two upper bits; size and MTU in their lower two octets
 abbrev pub start_transfer : (mode id size_low size_high log mtu_low mtu_high : ℕ) → List ℕ
@@ -89,9 +70,6 @@ transfer_cancel id = (0x83 ∷ 0x02 ∷ []) ++ id_of id
 
 abbrev pub block_start : (block size_low size_high : ℕ) → List ℕ
 block_start block size_low size_high = 0x83 ∷ 0x04 ∷ block ∷ 0 ∷ size_low ∷ size_high ∷ []
-
-abbrev pub block_get : List ℕ
-block_get = 0x83 ∷ 0x05 ∷ []
 
 abbrev pub chunk : (number : ℕ) → List ℕ → List ℕ
 chunk number octets = 0x66 ∷ number ∷ 0 ∷ octets
@@ -143,9 +121,6 @@ abbrev pub block_status : (first block size_low size_high : ℕ) → List ℕ
 block_status first block size_low size_high = 0x67 ∷ first ∷ block ∷ 0 ∷ size_low ∷ size_high ∷ []
 
 -- ---- where the node is
-
-abbrev pub said : List ℕ → Happening
-said payload = Done (heard payload) 0
 
 abbrev pub at : List Happening → NodeState
 at happenings = state_after node_two one_image happenings

@@ -2,6 +2,7 @@
 -- 61 62 63 as the new one.
 use Rattle.std.specs.Prelude.{◌≡◌, ◌++◌, ◌<◌, ℕ, List, [], ◌∷◌, Option, Some, None}
 use Rattle.std.specs.List.{All}
+pub use Rattle.mu_model_scenes.specs.Octets.{other_chunk}
 use Rattle.mu_model_image.specs.declared.Meta.{Meta}
 use Rattle.mu_model_record.specs.declared.Record.{Record}
 use Rattle.mu_model_record.specs.declared.BankState.{BankState}
@@ -24,10 +25,6 @@ use Rattle.mu_model_represents.specs.RepresentsNode.{IsNoNodeRecord, part_of_job
 -- the tag after these happenings at a node whose image is in bank 0
 abbrev pub tag_after : List Happening → List ℕ
 tag_after happenings = node_tag (0 ∷ []) 1 (after one_image happenings).durable.job
-
--- a chunk of another image than the one that was offered
-abbrev pub other_chunk : List ℕ
-other_chunk = 0x66 ∷ 0 ∷ 0 ∷ 0x61 ∷ 0x62 ∷ 0x64 ∷ []
 
 -- the BLOB part of the job without parameters, and with them
 abbrev pub part_unbegun : List ℕ

@@ -1,6 +1,7 @@
 -- Worked rows, octet by octet: what an updater at 0001 sends, and how its rows go, for receivers at 0002 and 0003, and with a node at
 -- 0002. The image is 61 62 63 as version 2.
 use Rattle.std.specs.Prelude.{ℕ, zero, suc, ◌≡◌, ◌+◌, ◌*◌, ◌++◌, Bool, true, false, List, [], ◌∷◌, map}
+pub use Rattle.mu_model_scenes.specs.Octets.{metadata_status}
 use Rattle.mu_model_wire.specs.Packet.{Packet}
 use Rattle.mu_model_node.specs.Events.{NodeEvent, PacketComes, TimeComes, node_step}
 use Rattle.mu_model_node.specs.NodeState.{NodeState}
@@ -46,10 +47,6 @@ sends run e = (updater_step (updater_after updater run) e.0 e.1).sent
 
 abbrev pub handles : List (NodeEvent × ℕ) → NodeEvent × ℕ → Bool
 handles run e = (updater_step (updater_after updater run) e.0 e.1).handled
-
--- a Metadata Status with status 0 for index 0
-abbrev pub metadata_status : List ℕ
-metadata_status = 0x83 ∷ 0x0b ∷ 0 ∷ 0 ∷ []
 
 -- the Information Status of the new image
 abbrev pub information_status : List ℕ
