@@ -7,8 +7,6 @@ mod message;
 mod ranges;
 mod reading;
 mod showing;
-#[cfg(test)]
-mod tests;
 mod writing;
 
 pub use datagrams::{datagram, undatagram};

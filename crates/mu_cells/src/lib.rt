@@ -12,6 +12,3 @@ pub use mu_outside::Failed;
 pub use page::{erase_page, read_page, write_page};
 pub use slot::{read_slot, write_slot};
 pub use ways::Ways;
-
-#[cfg(test)]
-mod tests;

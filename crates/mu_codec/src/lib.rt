@@ -5,8 +5,6 @@ mod addresses;
 mod cursor;
 mod packet;
 mod put;
-#[cfg(test)]
-mod tests;
 
 pub use addresses::{is_group, is_unicast};
 pub use cursor::Cursor;

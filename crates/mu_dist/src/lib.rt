@@ -2,8 +2,6 @@
 #![tactic(auto)]
 
 mod making;
-#[cfg(test)]
-mod tests;
 
 pub use making::make_distributor;
 pub use mu_store::{Stopped, StoreFault};

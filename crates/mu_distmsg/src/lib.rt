@@ -5,8 +5,6 @@ pub mod laws;
 mod message;
 mod ranges;
 mod reading;
-#[cfg(test)]
-mod tests;
 mod writing;
 
 pub use message::{DistMsg, ReceiverRow};

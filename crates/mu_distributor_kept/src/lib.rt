@@ -3,8 +3,6 @@
 
 mod phase;
 mod rows;
-#[cfg(test)]
-mod tests;
 
 pub use mu_distmsg::ReceiverRow;
 pub use phase::UploadPhase;

@@ -5,8 +5,6 @@ mod note;
 mod reading;
 mod rules;
 mod spelled;
-#[cfg(test)]
-mod tests;
 mod writing;
 
 pub use mu_distributor_kept::{ReceiverRow, Rows, UploadPhase};

@@ -4,8 +4,6 @@
 mod digesting;
 mod made;
 mod meta;
-#[cfg(test)]
-mod tests;
 
 pub use digesting::Digesting;
 pub use made::{made_byte, make_image};

@@ -3,8 +3,6 @@
 
 mod blob;
 mod node;
-#[cfg(test)]
-mod tests;
 mod zero;
 
 pub use blob::{BlobJob, blob_part_of, note_of, tag_of};

@@ -35,12 +35,3 @@ pub use ram_link::RamLink;
 pub use set_clock::SetClock;
 pub use sink::Sink;
 pub use source::Source;
-
-#[cfg(test)]
-mod flash_tests;
-#[cfg(test)]
-mod gathered_tests;
-#[cfg(test)]
-mod link_tests;
-#[cfg(test)]
-mod stream_tests;

@@ -8,8 +8,6 @@ mod logging;
 mod node;
 mod reading;
 mod readings;
-#[cfg(test)]
-mod tests;
 mod writing;
 
 pub use event::{Event, Stepped};

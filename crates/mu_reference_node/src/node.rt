@@ -121,6 +121,15 @@ impl Node {
         Ok(Node::new(pages, 3, images))
     }
 
+    /// The same node, as one that has written its last record: it can write no other.
+    pub fn at_last_record(self) -> Node
+        ensures { result ≡ record self { durable = record (self.durable) { count = last_count } } }
+    {
+        let mut node = self;
+        node.state.count = u32::MAX;
+        node
+    }
+
     /// The power goes between events and comes again: what isn't kept is lost. Tells what the log has of it.
     pub fn restart(&mut self) -> Entries
         ensures next { self.new ≡ restarted self.old.durable }

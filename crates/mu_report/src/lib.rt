@@ -4,8 +4,6 @@
 mod list;
 mod report;
 mod set;
-#[cfg(test)]
-mod tests;
 
 pub use list::{ListFault, decode_list, encode_list};
 pub use mu_model_wire::reports::Report;

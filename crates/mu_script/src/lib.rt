@@ -12,6 +12,3 @@ pub use mu_model_flash::Pattern;
 pub use mu_model_script::{LineFault, LineWhy};
 pub use octets::number;
 pub use reading::read_line;
-
-#[cfg(test)]
-mod tests;

@@ -8,8 +8,6 @@ mod fields;
 mod lines;
 mod lists;
 mod names;
-#[cfg(test)]
-mod tests;
 mod update;
 mod writing;
 

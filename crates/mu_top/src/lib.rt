@@ -4,14 +4,10 @@
 mod call;
 mod image;
 mod line;
-#[cfg(test)]
-mod node_tests;
 mod payload;
 mod payloads;
 mod replay;
 mod status;
-#[cfg(test)]
-mod tests;
 mod words;
 mod work;
 mod writing;

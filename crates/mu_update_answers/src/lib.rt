@@ -3,8 +3,6 @@
 
 mod reading;
 mod sending;
-#[cfg(test)]
-mod tests;
 mod writing;
 
 pub use reading::{request_at, request_of};

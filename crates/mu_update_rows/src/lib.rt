@@ -9,8 +9,6 @@ mod look;
 mod messages;
 mod phases;
 mod table;
-#[cfg(test)]
-mod tests;
 
 pub use answer::UpdateAnswer;
 pub use images::information;

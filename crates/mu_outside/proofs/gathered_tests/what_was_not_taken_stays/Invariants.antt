@@ -1,6 +1,0 @@
-use Rattle.std.proofs.Common.{Some}
-use Rattle.mu_outside.specs.Bytes.{sink_octets}
-use Rattle.mu_outside.proofs.gathered_tests.what_was_not_taken_stays.Given as goal
-
-abbrev pub ghosts-two_pieces : goal.ghosts-two_pieces
-ghosts-two_pieces g a = record { name = a.lent.output.ghost_name; start = Some (sink_octets a.lent.output.now) }
