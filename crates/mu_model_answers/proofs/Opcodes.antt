@@ -1,16 +1,10 @@
 -- What answers are read as: messages of their kind, or none.
-use Rattle.std.proofs.Common.{◌≡◌, ◌<◌, ℕ, ◌+◌, ◌*◌, Bool, true, false, List, [], ◌∷◌, length, refl, sym, ap, subst, cond, arith, Option, Some, None, Result, Ok, Err}
-use Rattle.std.specs.Prelude.{◌%◌, nat_lt}
-use Rattle.std.proofs.Math.Nat.{mod-eq_of_lt}
-use Rattle.std.proofs.Math.Dec.{ltb}
-use Rattle.std.proofs.lemmas.Bool.{le-ltb, ne_eqb}
-use Rattle.byteorder.specs.Endian.{little_number}
-use Rattle.byteorder.specs.Numbers.{little_number-reads_back}
-use Rattle.mu_model_wire.specs.Fields.{Fields, Shown, Message}
-use Rattle.mu_model_wire.specs.Reading.{◌>>=◌, Left, refuse, message_at, opcode_at, word_at, row_at, fields_at, fields_of}
+use Rattle.std.proofs.Common.{◌≡◌, ◌<◌, ◌≤◌, ℕ, ◌+◌, ◌*◌, List, [], ◌∷◌, refl, arith, Option, Some, None, Result, Ok, Err}
+use Rattle.mu_model_wire.specs.Fields.{Message}
+use Rattle.mu_model_wire.specs.Opcodes.{Keeps as KeepsIn, OneOctetIsKept, TwoOctetsAreKept}
+use Rattle.mu_model_wire.specs.Reading.{message_at}
 use Rattle.mu_model_wire.specs.Table.{rows}
 use Rattle.mu_model_wire.specs.declared.Refusal.{Refusal}
-use Rattle.mu_model_wire.specs.declared.Why.TheVariants.{Long}
 use Rattle.mu_model_node.specs.BlobMessages.{BlobRequest, blob_request_of, BlobInformationStatus, TransferStatus, BlockStatus, PartialBlockReport}
 use Rattle.mu_model_node.specs.UpdateMessages.{InformationStatus, MetadataStatus, UpdateStatus}
 use Rattle.mu_model_node.specs.NodeMessages.{Reply, ByUpdate, ByBlob, message_of, reply_octets, request_of, request_in, request_at}
@@ -20,72 +14,10 @@ use Rattle.mu_model_distributor.specs.Replies.{DistReply, ReceiversStatus, Recei
 use Rattle.mu_model_distributor.specs.DistMessages.{taken_as, taken_of, taken_in, taken_at, ByDistribution, sent_octets}
 use Rattle.mu_model_answers.specs.Laws.{AsksNothing, AreNoRequest, AsksOfNobody}
 
--- ---- an opcode that is read is the message's
-
 abbrev Keeps : ℕ → Result Message Refusal → Type 0
 Keeps opcode read = (m : Message) → read ≡ Ok m → m.opcode ≡ opcode
 
-abbrev opcode_in : Result Message Refusal → ℕ
-opcode_in (Ok m) = m.opcode
-opcode_in (Err e) = 0
-
-by_fields : (opcode : ℕ) (r : Result (List Shown × List (List Shown)) Refusal) → Keeps opcode (r >>= λ shown. Ok (record { opcode = opcode; fields = shown.0; entries = shown.1 }))
-by_fields opcode (Ok shown) m h = sym (ap opcode_in h)
-by_fields opcode (Err e) m h = cc
-
-by_row : (found : Option Fields) (opcode : ℕ) (left : Left) → Keeps opcode (row_at found opcode left)
-by_row None opcode left m h = cc
-by_row (Some fs) opcode left m h = by_fields opcode (fields_at fs [] left) m h
-
-kept : (opcode : ℕ) (left : Left) (bytes : List ℕ) → opcode_at (record { at = 0; octets = bytes }) ≡ Ok (opcode, left) → Keeps opcode (message_at rows bytes)
-kept opcode left bytes e = by_length (nat_lt 380 (length bytes))
-  where
-    by_length : (b : Bool) → Keeps opcode (cond b (refuse 380 Long) (opcode_at (record { at = 0; octets = bytes }) >>= λ opcode. row_at (fields_of rows opcode.0) opcode.0 opcode.1))
-    by_length true = λ m h. cc
-    by_length false = rw e (by_row (fields_of rows opcode) opcode left)
-
--- ---- opcodes of one octet and of two
-
-word_first : (a at : ℕ) (os : List ℕ) → a < 256 → word_at 1 (record { at = at; octets = a ∷ os }) ≡ Ok (a, record { at = at + 1; octets = os })
-unfolding word_at
-word_first a at os small =
-    let e : a % 256 ≡ a = mod-eq_of_lt small in
-    let again : little_number 1 (a % 256 ∷ os) ≡ a = little_number-reads_back 1 a os (omega arith) in
-    let n : little_number 1 (a ∷ os) ≡ a = subst (λ x. little_number 1 (x ∷ os) ≡ a) e again in
-    let long : ltb (length (a ∷ os)) 1 ≡ false = le-ltb (length (a ∷ os)) 1 (omega arith) in
-    rw (long, n) refl
-
-two : (low : ℕ) (body : List ℕ) → opcode_at (record { at = 0; octets = 0x83 ∷ low ∷ body }) ≡ Ok (0x83 * 256 + low, record { at = 2; octets = body })
-unfolding opcode_at
-two low body = rw (word_first 0x83 0 (low ∷ body) (omega arith), ne_eqb (length (low ∷ body)) 0 (λ (none : length (low ∷ body) ≡ 0). omega arith)) refl
-
-block_status : (body : List ℕ) → opcode_at (record { at = 0; octets = 0x67 ∷ body }) ≡ Ok (0x67, record { at = 1; octets = body })
-unfolding opcode_at
-block_status body = rw (word_first 0x67 0 body (omega arith)) refl
-
-part_report : (body : List ℕ) → opcode_at (record { at = 0; octets = 0x68 ∷ body }) ≡ Ok (0x68, record { at = 1; octets = body })
-unfolding opcode_at
-part_report body = rw (word_first 0x68 0 body (omega arith)) refl
-
-keeps_two : (bytes : List ℕ) (low : ℕ) (body : List ℕ) → bytes ≡ 0x83 ∷ low ∷ body → Keeps (0x83 * 256 + low) (message_at rows bytes)
-keeps_two bytes low body e = rw e (kept (0x83 * 256 + low) _ _ (two low body))
-
-keeps_block : (bytes body : List ℕ) → bytes ≡ 0x67 ∷ body → Keeps 0x67 (message_at rows bytes)
-keeps_block bytes body e = rw e (kept 0x67 _ _ (block_status body))
-
-keeps_part : (bytes body : List ℕ) → bytes ≡ 0x68 ∷ body → Keeps 0x68 (message_at rows bytes)
-keeps_part bytes body e = rw e (kept 0x68 _ _ (part_report body))
-
 -- ---- replies of a node
-
-reply_kept : (reply : Reply) → Keeps (message_of reply).opcode (message_at rows (reply_octets reply))
-reply_kept (ByUpdate (InformationStatus count first ids)) = keeps_two (reply_octets (ByUpdate (InformationStatus count first ids))) 0x09 _ refl
-reply_kept (ByUpdate (MetadataStatus status index)) = keeps_two (reply_octets (ByUpdate (MetadataStatus status index))) 0x0B _ refl
-reply_kept (ByUpdate (UpdateStatus status phase job)) = keeps_two (reply_octets (ByUpdate (UpdateStatus status phase job))) 0x10 _ refl
-reply_kept (ByBlob (BlobInformationStatus capacity)) = keeps_two (reply_octets (ByBlob (BlobInformationStatus capacity))) 0x07 _ refl
-reply_kept (ByBlob (TransferStatus status means phase id parameters absent)) = keeps_two (reply_octets (ByBlob (TransferStatus status means phase id parameters absent))) 0x03 _ refl
-reply_kept (ByBlob (BlockStatus status block size report)) = keeps_block (reply_octets (ByBlob (BlockStatus status block size report))) _ refl
-reply_kept (ByBlob (PartialBlockReport chunks)) = keeps_part (reply_octets (ByBlob (PartialBlockReport chunks))) _ refl
 
 no_request_of : (reply : Reply) (m : Message) → m.opcode ≡ (message_of reply).opcode → request_of m ≡ None
 no_request_of (ByUpdate (InformationStatus count first ids)) m e = rw e refl
@@ -133,14 +65,6 @@ received_in reply (Err e) h = tt
 
 -- ---- statuses and lists of a distributor
 
-status_kept : (reply : DistReply) → Keeps (dist_message_of reply).opcode (message_at rows (sent_octets (ByDistribution reply)))
-status_kept (ReceiversStatus status count) = keeps_two (sent_octets (ByDistribution (ReceiversStatus status count))) 0x13 _ refl
-status_kept (ReceiversList count first given) = keeps_two (sent_octets (ByDistribution (ReceiversList count first given))) 0x15 _ refl
-status_kept (CapabilitiesStatus capacity empty) = keeps_two (sent_octets (ByDistribution (CapabilitiesStatus capacity empty))) 0x17 _ refl
-status_kept (DistributionStatus status phase settings) = keeps_two (sent_octets (ByDistribution (DistributionStatus status phase settings))) 0x1D _ refl
-status_kept (UploadStatus status phase upload) = keeps_two (sent_octets (ByDistribution (UploadStatus status phase upload))) 0x22 _ refl
-status_kept (FirmwareStatus status count index fwid) = keeps_two (sent_octets (ByDistribution (FirmwareStatus status count index fwid))) 0x27 _ refl
-
 no_request_by : (reply : DistReply) (m : Message) → m.opcode ≡ (dist_message_of reply).opcode → request_of m ≡ None
 no_request_by (ReceiversStatus status count) m e = rw e refl
 no_request_by (ReceiversList count first given) m e = rw e refl
@@ -165,8 +89,37 @@ not_taken_at : (reply : DistReply) (read : Result Message Refusal) → Keeps (di
 not_taken_at reply (Ok m) h = not_taken reply m (h m refl)
 not_taken_at reply (Err e) h = tt
 
-pub asks_nothing : AsksOfNobody
-asks_nothing = record {
-  replies = λ reply. record { of_node = no_request_in reply (message_at rows (reply_octets reply)) (reply_kept reply); of_distributor = received_in reply (message_at rows (reply_octets reply)) (reply_kept reply) };
-  statuses = λ reply. record { of_node = no_request_at reply (message_at rows (sent_octets (ByDistribution reply))) (status_kept reply); of_distributor = not_taken_at reply (message_at rows (sent_octets (ByDistribution reply))) (status_kept reply) };
-}
+-- ---- their opcodes
+
+module _ (one : OneOctetIsKept) (two : TwoOctetsAreKept) where
+  keeps_two : (bytes : List ℕ) (low : ℕ) (body : List ℕ) → bytes ≡ 0x83 ∷ low ∷ body → KeepsIn rows (0x83 * 256 + low) bytes
+  keeps_two bytes low body e = rw e (two rows 0x83 low body (omega arith) (omega arith))
+
+  keeps_block : (bytes body : List ℕ) → bytes ≡ 0x67 ∷ body → KeepsIn rows 0x67 bytes
+  keeps_block bytes body e = rw e (one rows 0x67 body (omega arith))
+
+  keeps_part : (bytes body : List ℕ) → bytes ≡ 0x68 ∷ body → KeepsIn rows 0x68 bytes
+  keeps_part bytes body e = rw e (one rows 0x68 body (omega arith))
+
+  reply_kept : (reply : Reply) → Keeps (message_of reply).opcode (message_at rows (reply_octets reply))
+  reply_kept (ByUpdate (InformationStatus count first ids)) = keeps_two (reply_octets (ByUpdate (InformationStatus count first ids))) 0x09 _ refl
+  reply_kept (ByUpdate (MetadataStatus status index)) = keeps_two (reply_octets (ByUpdate (MetadataStatus status index))) 0x0B _ refl
+  reply_kept (ByUpdate (UpdateStatus status phase job)) = keeps_two (reply_octets (ByUpdate (UpdateStatus status phase job))) 0x10 _ refl
+  reply_kept (ByBlob (BlobInformationStatus capacity)) = keeps_two (reply_octets (ByBlob (BlobInformationStatus capacity))) 0x07 _ refl
+  reply_kept (ByBlob (TransferStatus status means phase id parameters absent)) = keeps_two (reply_octets (ByBlob (TransferStatus status means phase id parameters absent))) 0x03 _ refl
+  reply_kept (ByBlob (BlockStatus status block size report)) = keeps_block (reply_octets (ByBlob (BlockStatus status block size report))) _ refl
+  reply_kept (ByBlob (PartialBlockReport chunks)) = keeps_part (reply_octets (ByBlob (PartialBlockReport chunks))) _ refl
+
+  status_kept : (reply : DistReply) → Keeps (dist_message_of reply).opcode (message_at rows (sent_octets (ByDistribution reply)))
+  status_kept (ReceiversStatus status count) = keeps_two (sent_octets (ByDistribution (ReceiversStatus status count))) 0x13 _ refl
+  status_kept (ReceiversList count first given) = keeps_two (sent_octets (ByDistribution (ReceiversList count first given))) 0x15 _ refl
+  status_kept (CapabilitiesStatus capacity empty) = keeps_two (sent_octets (ByDistribution (CapabilitiesStatus capacity empty))) 0x17 _ refl
+  status_kept (DistributionStatus status phase settings) = keeps_two (sent_octets (ByDistribution (DistributionStatus status phase settings))) 0x1D _ refl
+  status_kept (UploadStatus status phase upload) = keeps_two (sent_octets (ByDistribution (UploadStatus status phase upload))) 0x22 _ refl
+  status_kept (FirmwareStatus status count index fwid) = keeps_two (sent_octets (ByDistribution (FirmwareStatus status count index fwid))) 0x27 _ refl
+
+  pub asks_nothing : AsksOfNobody
+  asks_nothing = record {
+    replies = λ reply. record { of_node = no_request_in reply (message_at rows (reply_octets reply)) (reply_kept reply); of_distributor = received_in reply (message_at rows (reply_octets reply)) (reply_kept reply) };
+    statuses = λ reply. record { of_node = no_request_at reply (message_at rows (sent_octets (ByDistribution reply))) (status_kept reply); of_distributor = not_taken_at reply (message_at rows (sent_octets (ByDistribution reply))) (status_kept reply) };
+  }

@@ -6,7 +6,7 @@ ghost use Rattle.mu_model_client_laws.specs.Wire.{RequestsAreRead, RequestsKeepT
 ghost use Rattle.mu_model_client_laws.specs.Asked.{ClientsSendTheirPlans};
 ghost use Rattle.mu_model_client_laws.specs.Laws.{AtMostSixteen, FieldsAreRead, NamedSetsAreReported, NamedSetsAreRead, PlansStay, TimeKeepsRanks, CancellingKeepsRanks, RowsRise, RowsChangeByCause, RowsFollowPackets, TimeChangesAtFive, ApplyingDropsNobody, DropsStay, GroupGetsTheUnion, EachGetsWhatItMisses, StepsSendTheirLists, BeginsSound, EventsKeepSound, ListsGoToActive};
 
-use mu_model_wire::laws::{canonical_is_read, grammar_holds};
+use mu_model_wire::laws::{canonical_is_read, grammar_holds, opcodes_are_kept};
 
 /// A node reads what a client writes.
 pub fn requests_are_read()
@@ -20,7 +20,9 @@ pub fn requests_are_read()
 pub fn requests_are_no_answers()
     ensures opcodes { RequestsKeepTheirOpcodes }
     ensures answers { RequestsAreNoAnswers }
-{}
+{
+    opcodes_are_kept();
+}
 
 /// A client reads what a node replies.
 pub fn replies_are_read()

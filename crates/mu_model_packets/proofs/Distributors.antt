@@ -3,6 +3,7 @@ use Rattle.std.proofs.Common.{◌≡◌, ℕ, true, false, List, [], ◌∷◌, 
 use Rattle.std.specs.Prelude.{◌==◌}
 use Rattle.std.specs.List.{AllByRecursion}
 use Rattle.mu_model_wire.specs.Fields.{Message}
+use Rattle.mu_model_wire.specs.Opcodes.{OneOctetIsKept, TwoOctetsAreKept}
 use Rattle.mu_model_wire.specs.Packet.{Packet}
 use Rattle.mu_model_node.specs.Events.{NodeEvent, PacketComes, TimeComes}
 use Rattle.mu_model_node.specs.NodeMessages.{ByBlob as NodeByBlob}
@@ -28,14 +29,6 @@ use Rattle.mu_model_packets.proofs.Requests.{request_fits}
 abbrev answer_opcode : DistReply → ℕ
 answer_opcode reply = (dist_message_of reply).opcode
 
-answer_kept : (reply : DistReply) → Keeps (answer_opcode reply) (sent_octets (ByDistribution reply))
-answer_kept (ReceiversStatus status count) = keeps_two (sent_octets (ByDistribution (ReceiversStatus status count))) 0x13 _ refl
-answer_kept (ReceiversList count first rows) = keeps_two (sent_octets (ByDistribution (ReceiversList count first rows))) 0x15 _ refl
-answer_kept (CapabilitiesStatus capacity remaining) = keeps_two (sent_octets (ByDistribution (CapabilitiesStatus capacity remaining))) 0x17 _ refl
-answer_kept (DistributionStatus status phase settings) = keeps_two (sent_octets (ByDistribution (DistributionStatus status phase settings))) 0x1D _ refl
-answer_kept (UploadStatus status phase upload) = keeps_two (sent_octets (ByDistribution (UploadStatus status phase upload))) 0x22 _ refl
-answer_kept (FirmwareStatus status count index fwid) = keeps_two (sent_octets (ByDistribution (FirmwareStatus status count index fwid))) 0x27 _ refl
-
 answer_shaped : (reply : DistReply) → IsShaped (dist_message_of reply)
 answer_shaped (ReceiversStatus status count) = (omega arith, tt)
 answer_shaped (ReceiversList count first rows) = (omega arith, tt)
@@ -52,53 +45,62 @@ no_request (DistributionStatus status phase settings) m e = rw e refl
 no_request (UploadStatus status phase upload) m e = rw e refl
 no_request (FirmwareStatus status count index fwid) m e = rw e refl
 
-answer_other : (reply : DistReply) → IsOther (answer_opcode reply) (sent_octets (ByDistribution reply))
-answer_other reply = record { keeps = answer_kept reply; opens = spelling_opens (dist_message_of reply) (answer_shaped reply); distribution = no_request reply }
+module _ (one : OneOctetIsKept) (two : TwoOctetsAreKept) where
+  answer_kept : (reply : DistReply) → Keeps (answer_opcode reply) (sent_octets (ByDistribution reply))
+  answer_kept (ReceiversStatus status count) = keeps_two two (sent_octets (ByDistribution (ReceiversStatus status count))) 0x13 _ refl
+  answer_kept (ReceiversList count first rows) = keeps_two two (sent_octets (ByDistribution (ReceiversList count first rows))) 0x15 _ refl
+  answer_kept (CapabilitiesStatus capacity remaining) = keeps_two two (sent_octets (ByDistribution (CapabilitiesStatus capacity remaining))) 0x17 _ refl
+  answer_kept (DistributionStatus status phase settings) = keeps_two two (sent_octets (ByDistribution (DistributionStatus status phase settings))) 0x1D _ refl
+  answer_kept (UploadStatus status phase upload) = keeps_two two (sent_octets (ByDistribution (UploadStatus status phase upload))) 0x22 _ refl
+  answer_kept (FirmwareStatus status count index fwid) = keeps_two two (sent_octets (ByDistribution (FirmwareStatus status count index fwid))) 0x27 _ refl
 
--- ---- a packet
+  answer_other : (reply : DistReply) → IsOther (answer_opcode reply) (sent_octets (ByDistribution reply))
+  answer_other reply = record { keeps = answer_kept reply; opens = spelling_opens (dist_message_of reply) (answer_shaped reply); distribution = no_request reply }
 
-sent_fits : RequestsKeepTheirOpcodes → (from to : ℕ) (sent : Sent) → PacketFits (sent_packet from (to, sent))
-sent_fits keeps from to (ByDistribution reply) = packet_fits (answer_opcode reply) (sent_packet from (to, ByDistribution reply)) (answer_other reply)
-sent_fits keeps from to (ByBlob reply) = packet_fits (opcode_of (NodeByBlob reply)) (sent_packet from (to, ByBlob reply)) (reply_other (NodeByBlob reply))
-sent_fits keeps from to (ByClient request) = request_fits keeps from to request
+  -- ---- a packet
 
--- ---- each packet is of a message
+  sent_fits : RequestsKeepTheirOpcodes → (from to : ℕ) (sent : Sent) → PacketFits (sent_packet from (to, sent))
+  sent_fits keeps from to (ByDistribution reply) = packet_fits (answer_opcode reply) (sent_packet from (to, ByDistribution reply)) (answer_other reply)
+  sent_fits keeps from to (ByBlob reply) = packet_fits (opcode_of (NodeByBlob reply)) (sent_packet from (to, ByBlob reply)) (reply_other one two (NodeByBlob reply))
+  sent_fits keeps from to (ByClient request) = request_fits keeps from to request
 
-abbrev Spelled : ℕ → List (ℕ × Sent) → List Packet → Type 0
-Spelled address sends packets = packets ≡ map (sent_packet address) sends
+  -- ---- each packet is of a message
 
-packet_spelled : (address : ℕ) (s : DistState) (from : ℕ) (taken : Option Taken) → Spelled address (on_packet address s from taken).sends (on_packet address s from taken).sent
-packet_spelled address s from (Some taken) = refl
-packet_spelled address s from None = refl
+  abbrev Spelled : ℕ → List (ℕ × Sent) → List Packet → Type 0
+  Spelled address sends packets = packets ≡ map (sent_packet address) sends
 
-event_spelled : (address : ℕ) (s : DistState) (event : NodeEvent) → Spelled address (on_event address s event).sends (on_event address s event).sent
-event_spelled address s (PacketComes packet) =
-    elim (packet.to == address) as (λ b. Spelled address (cond b (on_packet address s packet.from (taken_at packet.payload)) (passed_over s)).sends (cond b (on_packet address s packet.from (taken_at packet.payload)) (passed_over s)).sent) [
-      | true ↦ packet_spelled address s packet.from (taken_at packet.payload)
-      | false ↦ refl
-    ]
-event_spelled address s TimeComes = refl
+  packet_spelled : (address : ℕ) (s : DistState) (from : ℕ) (taken : Option Taken) → Spelled address (on_packet address s from taken).sends (on_packet address s from taken).sent
+  packet_spelled address s from (Some taken) = refl
+  packet_spelled address s from None = refl
 
-happening_spelled : (address : ℕ) (s : DistState) (h : Happening) → Spelled address (sent_by address s h) (packets_by address s h)
-happening_spelled address s (Done event now) = event_spelled address (at_moment s now) event
-happening_spelled address s CutPower = refl
-happening_spelled address s (Torn event now operations) = refl
+  event_spelled : (address : ℕ) (s : DistState) (event : NodeEvent) → Spelled address (on_event address s event).sends (on_event address s event).sent
+  event_spelled address s (PacketComes packet) =
+      elim (packet.to == address) as (λ b. Spelled address (cond b (on_packet address s packet.from (taken_at packet.payload)) (passed_over s)).sends (cond b (on_packet address s packet.from (taken_at packet.payload)) (passed_over s)).sent) [
+        | true ↦ packet_spelled address s packet.from (taken_at packet.payload)
+        | false ↦ refl
+      ]
+  event_spelled address s TimeComes = refl
 
-map_join : {A B : Type 0} (f : A → B) (xs ys : List A) → map f (xs ++ ys) ≡ map f xs ++ map f ys
-map_join f [] ys = refl
-map_join f (x ∷ xs) ys = ap (λ zs. f x ∷ zs) (map_join f xs ys)
+  happening_spelled : (address : ℕ) (s : DistState) (h : Happening) → Spelled address (sent_by address s h) (packets_by address s h)
+  happening_spelled address s (Done event now) = event_spelled address (at_moment s now) event
+  happening_spelled address s CutPower = refl
+  happening_spelled address s (Torn event now operations) = refl
 
-run_spelled : (address : ℕ) (s : DistState) (hs : List Happening) → Spelled address (sent_in address s hs) (packets_in address s hs)
-run_spelled address s [] = refl
-run_spelled address s (h ∷ hs) =
-    rw (happening_spelled address s h, run_spelled address (happened address s h) hs) (sym (map_join (sent_packet address) (sent_by address s h) (sent_in address (happened address s h) hs)))
+  map_join : {A B : Type 0} (f : A → B) (xs ys : List A) → map f (xs ++ ys) ≡ map f xs ++ map f ys
+  map_join f [] ys = refl
+  map_join f (x ∷ xs) ys = ap (λ zs. f x ∷ zs) (map_join f xs ys)
 
--- ---- runs
+  run_spelled : (address : ℕ) (s : DistState) (hs : List Happening) → Spelled address (sent_in address s hs) (packets_in address s hs)
+  run_spelled address s [] = refl
+  run_spelled address s (h ∷ hs) =
+      rw (happening_spelled address s h, run_spelled address (happened address s h) hs) (sym (map_join (sent_packet address) (sent_by address s h) (sent_in address (happened address s h) hs)))
 
-all_fit : RequestsKeepTheirOpcodes → (from : ℕ) (sends : List (ℕ × Sent)) → AllByRecursion PacketFits (map (sent_packet from) sends)
-all_fit keeps from [] = tt
-all_fit keeps from ((to, sent) ∷ sends) = (sent_fits keeps from to sent, all_fit keeps from sends)
+  -- ---- runs
 
-pub distributors_send_fit : RequestsKeepTheirOpcodes → DistributorsSendFit
-distributors_send_fit keeps r =
-    subst (AllByRecursion PacketFits) (sym (run_spelled r.address (begin_of r) r.happenings)) (all_fit keeps r.address (sent_of r))
+  all_fit : RequestsKeepTheirOpcodes → (from : ℕ) (sends : List (ℕ × Sent)) → AllByRecursion PacketFits (map (sent_packet from) sends)
+  all_fit keeps from [] = tt
+  all_fit keeps from ((to, sent) ∷ sends) = (sent_fits keeps from to sent, all_fit keeps from sends)
+
+  pub distributors_send_fit : RequestsKeepTheirOpcodes → DistributorsSendFit
+  distributors_send_fit keeps r =
+      subst (AllByRecursion PacketFits) (sym (run_spelled r.address (begin_of r) r.happenings)) (all_fit keeps r.address (sent_of r))

@@ -1,16 +1,11 @@
 -- A message with an opcode of its own is read as one of its kind or as none, and then says nothing out of range.
-use Rattle.std.proofs.Common.{◌≡◌, ◌<◌, ℕ, ◌+◌, ◌*◌, ◌%◌, Bool, true, false, List, [], ◌∷◌, length, refl, sym, ap, subst, cond, arith, Option, Some, None, Result, Ok, Err}
-use Rattle.std.specs.Prelude.{nat_lt, MatchOption}
-use Rattle.std.proofs.Math.Nat.{mod-eq_of_lt}
-use Rattle.std.proofs.Math.Dec.{ltb}
-use Rattle.std.proofs.lemmas.Bool.{le-ltb, ne_eqb}
-use Rattle.byteorder.specs.Endian.{little_number}
-use Rattle.byteorder.specs.Numbers.{little_number-reads_back}
+use Rattle.std.proofs.Common.{◌≡◌, ◌<◌, ◌≤◌, ℕ, ◌+◌, ◌*◌, List, [], ◌∷◌, refl, sym, subst, arith, Option, Some, None, Result, Ok, Err}
+use Rattle.std.specs.Prelude.{MatchOption}
 use Rattle.mu_model_wire.specs.declared.Refusal.{Refusal}
-use Rattle.mu_model_wire.specs.declared.Why.TheVariants.{Long}
-use Rattle.mu_model_wire.specs.Fields.{Fields, Shown, Message}
+use Rattle.mu_model_wire.specs.Fields.{Message}
+use Rattle.mu_model_wire.specs.Opcodes.{Keeps as KeepsIn, OneOctetIsKept, TwoOctetsAreKept}
 use Rattle.mu_model_wire.specs.Packet.{Packet}
-use Rattle.mu_model_wire.specs.Reading.{◌>>=◌, Left, refuse, message_at, opcode_at, word_at, row_at, fields_at, fields_of}
+use Rattle.mu_model_wire.specs.Reading.{message_at}
 use Rattle.mu_model_wire.specs.Table.{rows}
 use Rattle.mu_model_node.specs.BlobMessages.{BlobRequest, blob_request_of}
 use Rattle.mu_model_node.specs.NodeMessages.{request_of}
@@ -29,60 +24,17 @@ use Rattle.mu_model_packets.proofs.Packets.{packet_says}
 -- ---- an opcode that is read is the message's
 
 abbrev pub Keeps : ℕ → List ℕ → Type 0
-Keeps opcode bytes = (m : Message) → message_at rows bytes ≡ Ok m → m.opcode ≡ opcode
-
-abbrev KeptIn : ℕ → Result Message Refusal → Type 0
-KeptIn opcode read = (m : Message) → read ≡ Ok m → m.opcode ≡ opcode
-
-abbrev opcode_in : Result Message Refusal → ℕ
-opcode_in (Ok m) = m.opcode
-opcode_in (Err e) = 0
-
-by_fields : (opcode : ℕ) (r : Result (List Shown × List (List Shown)) Refusal) → KeptIn opcode (r >>= λ shown. Ok (record { opcode = opcode; fields = shown.0; entries = shown.1 }))
-by_fields opcode (Ok shown) m h = sym (ap opcode_in h)
-by_fields opcode (Err e) m h = cc
-
-by_row : (found : Option Fields) (opcode : ℕ) (left : Left) → KeptIn opcode (row_at found opcode left)
-by_row None opcode left m h = cc
-by_row (Some fs) opcode left m h = by_fields opcode (fields_at fs [] left) m h
-
-kept : (opcode : ℕ) (left : Left) (bytes : List ℕ) → opcode_at (record { at = 0; octets = bytes }) ≡ Ok (opcode, left) → Keeps opcode bytes
-kept opcode left bytes e = by_length (nat_lt 380 (length bytes))
-  where
-    by_length : (b : Bool) → KeptIn opcode (cond b (refuse 380 Long) (opcode_at (record { at = 0; octets = bytes }) >>= λ opcode. row_at (fields_of rows opcode.0) opcode.0 opcode.1))
-    by_length true = λ m h. cc
-    by_length false = rw e (by_row (fields_of rows opcode) opcode left)
-
-word_first : (a at : ℕ) (os : List ℕ) → a < 256 → word_at 1 (record { at = at; octets = a ∷ os }) ≡ Ok (a, record { at = at + 1; octets = os })
-unfolding word_at
-word_first a at os small =
-    let e : a % 256 ≡ a = mod-eq_of_lt small in
-    let again : little_number 1 (a % 256 ∷ os) ≡ a = little_number-reads_back 1 a os (omega arith) in
-    let n : little_number 1 (a ∷ os) ≡ a = subst (λ x. little_number 1 (x ∷ os) ≡ a) e again in
-    let long : ltb (length (a ∷ os)) 1 ≡ false = le-ltb (length (a ∷ os)) 1 (omega arith) in
-    rw (long, n) refl
-
-two : (low : ℕ) (body : List ℕ) → opcode_at (record { at = 0; octets = 0x83 ∷ low ∷ body }) ≡ Ok (0x83 * 256 + low, record { at = 2; octets = body })
-unfolding opcode_at
-two low body = rw (word_first 0x83 0 (low ∷ body) (omega arith), ne_eqb (length (low ∷ body)) 0 (λ (none : length (low ∷ body) ≡ 0). omega arith)) refl
-
-one_67 : (body : List ℕ) → opcode_at (record { at = 0; octets = 0x67 ∷ body }) ≡ Ok (0x67, record { at = 1; octets = body })
-unfolding opcode_at
-one_67 body = rw (word_first 0x67 0 body (omega arith)) refl
-
-one_68 : (body : List ℕ) → opcode_at (record { at = 0; octets = 0x68 ∷ body }) ≡ Ok (0x68, record { at = 1; octets = body })
-unfolding opcode_at
-one_68 body = rw (word_first 0x68 0 body (omega arith)) refl
+Keeps opcode bytes = KeepsIn rows opcode bytes
 
 -- opcodes of two octets, and of one
-pub keeps_two : (bytes : List ℕ) (low : ℕ) (body : List ℕ) → bytes ≡ 0x83 ∷ low ∷ body → Keeps (0x83 * 256 + low) bytes
-keeps_two bytes low body e = rw e (kept (0x83 * 256 + low) _ _ (two low body))
+pub keeps_two : TwoOctetsAreKept → (bytes : List ℕ) (low : ℕ) (body : List ℕ) → bytes ≡ 0x83 ∷ low ∷ body → Keeps (0x83 * 256 + low) bytes
+keeps_two two bytes low body e = rw e (two rows 0x83 low body (omega arith) (omega arith))
 
-pub keeps_67 : (bytes body : List ℕ) → bytes ≡ 0x67 ∷ body → Keeps 0x67 bytes
-keeps_67 bytes body e = rw e (kept 0x67 _ _ (one_67 body))
+pub keeps_67 : OneOctetIsKept → (bytes body : List ℕ) → bytes ≡ 0x67 ∷ body → Keeps 0x67 bytes
+keeps_67 one bytes body e = rw e (one rows 0x67 body (omega arith))
 
-pub keeps_68 : (bytes body : List ℕ) → bytes ≡ 0x68 ∷ body → Keeps 0x68 bytes
-keeps_68 bytes body e = rw e (kept 0x68 _ _ (one_68 body))
+pub keeps_68 : OneOctetIsKept → (bytes body : List ℕ) → bytes ≡ 0x68 ∷ body → Keeps 0x68 bytes
+keeps_68 one bytes body e = rw e (one rows 0x68 body (omega arith))
 
 -- ---- what a message says is in range
 
