@@ -1,16 +1,12 @@
 -- Each Receivers List that a distributor sends shows its rows.
 use Rattle.std.proofs.Common.{◌≡◌, ◌<◌, ◌≤◌, ℕ, ◌+◌, ◌*◌, ◌/◌, Bool, true, false, List, [], ◌∷◌, length, map, refl, ap, subst, cond, arith, Option, Some, None, Result, Ok, Err}
 use Rattle.std.specs.Prelude.{◌==◌, ◌%◌, nat_lt}
-use Rattle.std.proofs.Math.Nat.{mod-eq_of_lt}
-use Rattle.std.proofs.Math.Dec.{ltb}
 use Rattle.std.proofs.lemmas.Bool.{le-ltb, ne_eqb}
-use Rattle.byteorder.specs.Endian.{little_number}
-use Rattle.byteorder.specs.Numbers.{little_number-reads_back}
 use Rattle.std.specs.List.{AllByRecursion}
-use Rattle.mu_model_wire.specs.Fields.{Fields, Shown}
+use Rattle.mu_model_wire.specs.Fields.{Message}
+use Rattle.mu_model_wire.specs.Opcodes.{OneOctetIsKept, TwoOctetsAreKept}
 use Rattle.mu_model_wire.specs.Distribution.{row_fields}
-use Rattle.mu_model_wire.specs.Reading.{◌>>=◌, Left, refuse, message_at, opcode_at, word_at, row_at, fields_at, fields_of}
-use Rattle.mu_model_wire.specs.declared.Why.TheVariants.{Long}
+use Rattle.mu_model_wire.specs.Reading.{message_at}
 use Rattle.mu_model_wire.specs.Spelling.{entries_spelling, Fits, EntryFits, EntriesFit}
 use Rattle.mu_model_wire.specs.Table.{rows}
 use Rattle.mu_model_wire.specs.declared.Refusal.{Refusal}
@@ -26,80 +22,11 @@ use Rattle.mu_model_distributor_laws.specs.Lists.{row_told, list_in, list_at}
 -- ---- other messages
 
 -- what is read of another opcode is no list
-fields_other : (opcode : ℕ) → (opcode == 0x8315) ≡ false → (r : Result (List Shown × List (List Shown)) Refusal) → list_in (r >>= λ shown. Ok (record { opcode = opcode; fields = shown.0; entries = shown.1 })) ≡ None
-fields_other opcode n (Ok shown) = rw n refl
-fields_other opcode n (Err e) = refl
-
-row_other : (found : Option Fields) (opcode : ℕ) (left : Left) → (opcode == 0x8315) ≡ false → list_in (row_at found opcode left) ≡ None
-row_other None opcode left n = refl
-row_other (Some fs) opcode left n = fields_other opcode n (fields_at fs [] left)
-
-other : (opcode : ℕ) (left : Left) (bytes : List ℕ) → opcode_at (record { at = 0; octets = bytes }) ≡ Ok (opcode, left) → (opcode == 0x8315) ≡ false → list_at bytes ≡ None
-other opcode left bytes e n = by_length (nat_lt 380 (length bytes))
-  where
-    by_length : (b : Bool) → list_in (cond b (refuse 380 Long) (opcode_at (record { at = 0; octets = bytes }) >>= λ opcode. row_at (fields_of rows opcode.0) opcode.0 opcode.1)) ≡ None
-    by_length true = refl
-    by_length false = rw e (row_other (fields_of rows opcode) opcode left n)
-
-word_first : (a at : ℕ) (os : List ℕ) → a < 256 → word_at 1 (record { at = at; octets = a ∷ os }) ≡ Ok (a, record { at = at + 1; octets = os })
-unfolding word_at
-word_first a at os small =
-    let e : a % 256 ≡ a = mod-eq_of_lt small in
-    let again : little_number 1 (a % 256 ∷ os) ≡ a = little_number-reads_back 1 a os (omega arith) in
-    let n : little_number 1 (a ∷ os) ≡ a = subst (λ x. little_number 1 (x ∷ os) ≡ a) e again in
-    let long : ltb (length (a ∷ os)) 1 ≡ false = le-ltb (length (a ∷ os)) 1 (omega arith) in
-    rw (long, n) refl
-
-two : (low : ℕ) (body : List ℕ) → opcode_at (record { at = 0; octets = 0x83 ∷ low ∷ body }) ≡ Ok (0x83 * 256 + low, record { at = 2; octets = body })
-unfolding opcode_at
-two low body = rw (word_first 0x83 0 (low ∷ body) (omega arith), ne_eqb (length (low ∷ body)) 0 (λ (none : length (low ∷ body) ≡ 0). omega arith)) refl
-
-one_66 : (body : List ℕ) → opcode_at (record { at = 0; octets = 0x66 ∷ body }) ≡ Ok (0x66, record { at = 1; octets = body })
-unfolding opcode_at
-one_66 body = rw (word_first 0x66 0 body (omega arith)) refl
-
-one_67 : (body : List ℕ) → opcode_at (record { at = 0; octets = 0x67 ∷ body }) ≡ Ok (0x67, record { at = 1; octets = body })
-unfolding opcode_at
-one_67 body = rw (word_first 0x67 0 body (omega arith)) refl
-
-one_68 : (body : List ℕ) → opcode_at (record { at = 0; octets = 0x68 ∷ body }) ≡ Ok (0x68, record { at = 1; octets = body })
-unfolding opcode_at
-one_68 body = rw (word_first 0x68 0 body (omega arith)) refl
-
-pub no_list : (bytes : List ℕ) (low : ℕ) (body : List ℕ) → bytes ≡ 0x83 ∷ low ∷ body → (0x83 * 256 + low == 0x8315) ≡ false → list_at bytes ≡ None
-no_list bytes low body e n = rw e (other (0x83 * 256 + low) _ _ (two low body) n)
-
-no_list_66 : (bytes body : List ℕ) → bytes ≡ 0x66 ∷ body → list_at bytes ≡ None
-no_list_66 bytes body e = rw e (other 0x66 _ _ (one_66 body) refl)
-
-no_list_67 : (bytes body : List ℕ) → bytes ≡ 0x67 ∷ body → list_at bytes ≡ None
-no_list_67 bytes body e = rw e (other 0x67 _ _ (one_67 body) refl)
-
-no_list_68 : (bytes body : List ℕ) → bytes ≡ 0x68 ∷ body → list_at bytes ≡ None
-no_list_68 bytes body e = rw e (other 0x68 _ _ (one_68 body) refl)
-
--- ---- what is sent
-
-pub client_other : (request : Request) → list_at (sent_octets (ByClient request)) ≡ None
-client_other (OfUpdate (InformationGet first limit)) = no_list (sent_octets (ByClient (OfUpdate (InformationGet first limit)))) 0x08 _ refl refl
-client_other (OfUpdate (MetadataCheck index metadata)) = no_list (sent_octets (ByClient (OfUpdate (MetadataCheck index metadata)))) 0x0A _ refl refl
-client_other (OfUpdate UpdateGet) = no_list (sent_octets (ByClient (OfUpdate UpdateGet))) 0x0C _ refl refl
-client_other (OfUpdate (StartUpdate u)) = no_list (sent_octets (ByClient (OfUpdate (StartUpdate u)))) 0x0D _ refl refl
-client_other (OfUpdate UpdateCancel) = no_list (sent_octets (ByClient (OfUpdate UpdateCancel))) 0x0E _ refl refl
-client_other (OfUpdate UpdateApply) = no_list (sent_octets (ByClient (OfUpdate UpdateApply))) 0x0F _ refl refl
-client_other (OfBlob TransferGet) = no_list (sent_octets (ByClient (OfBlob TransferGet))) 0x00 _ refl refl
-client_other (OfBlob (TransferStart transfer p)) = no_list (sent_octets (ByClient (OfBlob (TransferStart transfer p)))) 0x01 _ refl refl
-client_other (OfBlob (TransferCancel transfer)) = no_list (sent_octets (ByClient (OfBlob (TransferCancel transfer)))) 0x02 _ refl refl
-client_other (OfBlob (BlockStart block length)) = no_list (sent_octets (ByClient (OfBlob (BlockStart block length)))) 0x04 _ refl refl
-client_other (OfBlob BlockGet) = no_list (sent_octets (ByClient (OfBlob BlockGet))) 0x05 _ refl refl
-client_other (OfBlob BlobInformationGet) = no_list (sent_octets (ByClient (OfBlob BlobInformationGet))) 0x06 _ refl refl
-client_other (OfBlob (ChunkTransfer chunk part)) = no_list_66 (sent_octets (ByClient (OfBlob (ChunkTransfer chunk part)))) _ refl
-
-pub blob_other : (reply : BlobReply) → list_at (sent_octets (ByBlob reply)) ≡ None
-blob_other (BlobInformationStatus capacity) = no_list (sent_octets (ByBlob (BlobInformationStatus capacity))) 0x07 _ refl refl
-blob_other (TransferStatus result means stage transfer parameters absent) = no_list (sent_octets (ByBlob (TransferStatus result means stage transfer parameters absent))) 0x03 _ refl refl
-blob_other (BlockStatus result n octets report) = no_list_67 (sent_octets (ByBlob (BlockStatus result n octets report))) _ refl
-blob_other (PartialBlockReport chunks) = no_list_68 (sent_octets (ByBlob (PartialBlockReport chunks))) _ refl
+other : (opcode : ℕ) (r : Result Message Refusal) → ((m : Message) → r ≡ Ok m → m.opcode ≡ opcode) → (opcode == 0x8315) ≡ false → list_in r ≡ None
+other opcode (Ok m) keeps n =
+    let same : m.opcode ≡ opcode = keeps m refl in
+    rw (same, n) refl
+other opcode (Err e) keeps n = refl
 
 -- ---- a list
 
@@ -135,3 +62,42 @@ list_again again grammar all first given a f few h =
     let fits : Fits rows (dist_message_of (ReceiversList all first given)) = (((refl, a), ((refl, f), (refl, omega arith, rows_fit given h))), omega (arith, rows_length given)) in
     let read : message_at rows (sent_octets (ByDistribution (ReceiversList all first given))) ≡ Ok (dist_message_of (ReceiversList all first given)) = again rows (dist_message_of (ReceiversList all first given)) grammar fits in
     rw read (ap Some (rows_again given h))
+
+-- ---- what is sent
+
+module _ (one : OneOctetIsKept) (two : TwoOctetsAreKept) where
+  pub no_list : (bytes : List ℕ) (low : ℕ) (body : List ℕ) → bytes ≡ 0x83 ∷ low ∷ body → (0x83 * 256 + low == 0x8315) ≡ false → list_at bytes ≡ None
+  no_list bytes low body e n = rw e (other (0x83 * 256 + low) (message_at rows (0x83 ∷ low ∷ body)) (two rows 0x83 low body (omega arith) (omega arith)) n)
+
+  no_list_of : (bytes : List ℕ) (a : ℕ) (body : List ℕ) → bytes ≡ a ∷ body → a < 0x80 → (a == 0x8315) ≡ false → list_at bytes ≡ None
+  no_list_of bytes a body e small n = rw e (other a (message_at rows (a ∷ body)) (one rows a body small) n)
+
+  no_list_66 : (bytes body : List ℕ) → bytes ≡ 0x66 ∷ body → list_at bytes ≡ None
+  no_list_66 bytes body e = no_list_of bytes 0x66 body e (omega arith) refl
+
+  no_list_67 : (bytes body : List ℕ) → bytes ≡ 0x67 ∷ body → list_at bytes ≡ None
+  no_list_67 bytes body e = no_list_of bytes 0x67 body e (omega arith) refl
+
+  no_list_68 : (bytes body : List ℕ) → bytes ≡ 0x68 ∷ body → list_at bytes ≡ None
+  no_list_68 bytes body e = no_list_of bytes 0x68 body e (omega arith) refl
+
+  pub client_other : (request : Request) → list_at (sent_octets (ByClient request)) ≡ None
+  client_other (OfUpdate (InformationGet first limit)) = no_list (sent_octets (ByClient (OfUpdate (InformationGet first limit)))) 0x08 _ refl refl
+  client_other (OfUpdate (MetadataCheck index metadata)) = no_list (sent_octets (ByClient (OfUpdate (MetadataCheck index metadata)))) 0x0A _ refl refl
+  client_other (OfUpdate UpdateGet) = no_list (sent_octets (ByClient (OfUpdate UpdateGet))) 0x0C _ refl refl
+  client_other (OfUpdate (StartUpdate u)) = no_list (sent_octets (ByClient (OfUpdate (StartUpdate u)))) 0x0D _ refl refl
+  client_other (OfUpdate UpdateCancel) = no_list (sent_octets (ByClient (OfUpdate UpdateCancel))) 0x0E _ refl refl
+  client_other (OfUpdate UpdateApply) = no_list (sent_octets (ByClient (OfUpdate UpdateApply))) 0x0F _ refl refl
+  client_other (OfBlob TransferGet) = no_list (sent_octets (ByClient (OfBlob TransferGet))) 0x00 _ refl refl
+  client_other (OfBlob (TransferStart transfer p)) = no_list (sent_octets (ByClient (OfBlob (TransferStart transfer p)))) 0x01 _ refl refl
+  client_other (OfBlob (TransferCancel transfer)) = no_list (sent_octets (ByClient (OfBlob (TransferCancel transfer)))) 0x02 _ refl refl
+  client_other (OfBlob (BlockStart block length)) = no_list (sent_octets (ByClient (OfBlob (BlockStart block length)))) 0x04 _ refl refl
+  client_other (OfBlob BlockGet) = no_list (sent_octets (ByClient (OfBlob BlockGet))) 0x05 _ refl refl
+  client_other (OfBlob BlobInformationGet) = no_list (sent_octets (ByClient (OfBlob BlobInformationGet))) 0x06 _ refl refl
+  client_other (OfBlob (ChunkTransfer chunk part)) = no_list_66 (sent_octets (ByClient (OfBlob (ChunkTransfer chunk part)))) _ refl
+
+  pub blob_other : (reply : BlobReply) → list_at (sent_octets (ByBlob reply)) ≡ None
+  blob_other (BlobInformationStatus capacity) = no_list (sent_octets (ByBlob (BlobInformationStatus capacity))) 0x07 _ refl refl
+  blob_other (TransferStatus result means stage transfer parameters absent) = no_list (sent_octets (ByBlob (TransferStatus result means stage transfer parameters absent))) 0x03 _ refl refl
+  blob_other (BlockStatus result n octets report) = no_list_67 (sent_octets (ByBlob (BlockStatus result n octets report))) _ refl
+  blob_other (PartialBlockReport chunks) = no_list_68 (sent_octets (ByBlob (PartialBlockReport chunks))) _ refl

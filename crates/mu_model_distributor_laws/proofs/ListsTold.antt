@@ -1,6 +1,7 @@
 -- Each row of a list is as its receiver told it.
 use Rattle.std.proofs.Common.{ℕ, List, [], ◌∷◌, map, Option, Some, None}
 use Rattle.std.specs.List.{AllByRecursion}
+use Rattle.mu_model_wire.specs.Opcodes.{OneOctetIsKept, TwoOctetsAreKept}
 use Rattle.mu_model_wire.specs.Packet.{Packet}
 use Rattle.mu_model_wire.specs.Laws.{CanonicalIsRead, GrammarHolds}
 use Rattle.mu_model_node.specs.Laws.{RequestsKeepStatesSound}
@@ -35,8 +36,8 @@ all_told : (address : ℕ) (d : DistDurable) (fresh : ℕ) (hs : List Happening)
 all_told address d fresh hs [] told h = tt
 all_told address d fresh hs (p ∷ sent) told h = (shown_told address d fresh hs (list_at p.payload) told h.0, all_told address d fresh hs sent told h.1)
 
-pub lists_are_told : RequestsKeepStatesSound → CanonicalIsRead → GrammarHolds → ListsAreTold
-lists_are_told law again grammar address d fresh hs event now h few fits fit =
+pub lists_are_told : OneOctetIsKept → TwoOctetsAreKept → RequestsKeepStatesSound → CanonicalIsRead → GrammarHolds → ListsAreTold
+lists_are_told one two law again grammar address d fresh hs event now h few fits fit =
     let order : IsInOrder address (state_after address (live address d fresh) hs) = run_in_order law address (live address d fresh) hs fits (begun address d fresh h few) in
     all_told address d fresh hs (dist_step address (state_after address (live address d fresh) hs) event now).sent (rows_are_told law address d fresh hs h few fits)
-    (lists_show again grammar address (state_after address (live address d fresh) hs) event now fit order.sound)
+    (lists_show one two again grammar address (state_after address (live address d fresh) hs) event now fit order.sound)

@@ -15,7 +15,9 @@ ghost use Rattle.mu_model_distributor_laws.specs.Lists.{ListsShowRows, ListsAreT
 ghost use Rattle.mu_model_distributor_laws.specs.Starts.{StartsAreInOrder, NewIsUnused, StockedIsUnused};
 ghost use Rattle.mu_model_distributor_laws.specs.RunLaws.{RunsAreInOrder, NoNumberIsLost};
 
-use mu_model_wire::laws::{canonical_is_read, grammar_holds, reads_what_is_spelled};
+use mu_model_wire::laws::{
+    canonical_is_read, grammar_holds, opcodes_are_kept, reads_what_is_spelled,
+};
 
 /// The rules on a distributor's record hold in each state that it goes through, from each boot on.
 pub fn states_are_sound()
@@ -97,6 +99,7 @@ pub fn lists_are_told()
     ensures rows { ListsShowRows }
     ensures told { ListsAreTold }
 {
+    opcodes_are_kept();
     grammar_holds();
     canonical_is_read();
     mu_model_node::laws::states_are_sound();
