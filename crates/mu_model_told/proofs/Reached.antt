@@ -4,6 +4,7 @@ use Rattle.std.specs.Prelude.{slice_get, ◌+◌}
 use Rattle.std.specs.List.{AllByRecursion}
 use Rattle.mu_model_image.specs.Meta.{Image}
 use Rattle.mu_model_image.specs.Laws.{ImagesHaveMetadata}
+use Rattle.mu_model_wire.specs.Opcodes.{OneOctetIsKept, TwoOctetsAreKept}
 use Rattle.mu_model_wire.specs.Packet.{Packet}
 use Rattle.mu_model_wire.specs.Laws.{CanonicalIsRead, GrammarHolds}
 use Rattle.mu_model_node.specs.Events.{node_step}
@@ -69,6 +70,8 @@ all_reached d log s (p ∷ sent) h k so = (answer_reached d log s (answer_at p.p
 
 -- what the lower crates prove
 pub record Lower : Type 0 where
+  pub one : OneOctetIsKept
+  pub two : TwoOctetsAreKept
   pub grammar : GrammarHolds
   pub again : CanonicalIsRead
   pub images : ImagesHaveMetadata
@@ -88,4 +91,4 @@ told_is_reached law config d hs event now h numbers fits fit =
     all_reached d log next (node_step config s event now).sent
     (subst (λ (t : NodeState). StateIsReached d log t) is (runs_reached config d all))
     (subst (λ (t : NodeState). ImagesAreSafe d.images (found d.job ++ log) t.durable.images) is (law.safe config d all h))
-    (told_is_so law.grammar law.again law.images config s event now fit.1 order.sound order.numbers)
+    (told_is_so law.one law.two law.grammar law.again law.images config s event now fit.1 order.sound order.numbers)

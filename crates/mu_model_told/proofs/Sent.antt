@@ -5,6 +5,7 @@ use Rattle.std.specs.List.{AllByRecursion}
 use Rattle.mu_model_image.specs.declared.Meta.{Meta}
 use Rattle.mu_model_image.specs.Meta.{Image, meta_from}
 use Rattle.mu_model_image.specs.Laws.{ImagesHaveMetadata}
+use Rattle.mu_model_wire.specs.Opcodes.{OneOctetIsKept, TwoOctetsAreKept}
 use Rattle.mu_model_wire.specs.Packet.{Packet}
 use Rattle.mu_model_wire.specs.Laws.{CanonicalIsRead, GrammarHolds}
 use Rattle.mu_model_node.specs.declared.NodeConfig.{NodeConfig}
@@ -90,55 +91,56 @@ apply_tells again grammar s to (Succeeded j) k h = (status_so again grammar (on_
 apply_tells again grammar s to (Failed j) k h = (status_so again grammar s wrong_phase (omega arith) h, tt)
 apply_tells again grammar s to (Applying j) k h = (status_so again grammar s success (omega arith) h, tt)
 
-update_tells : CanonicalIsRead → GrammarHolds → ImagesHaveMetadata → (s : NodeState) (to : ℕ) (request : UpdateRequest) → AreUpdateNumbers request → IsNodeState s → HasNumbers s.durable.job → TellsAfter (on_update s to request)
-update_tells again grammar images s to (InformationGet first limit) k sound h = (information_so again grammar images s first limit k sound, tt)
-update_tells again grammar images s to (MetadataCheck index metadata) k sound h = (metadata_so s (status_of (check s.durable index metadata)) index, tt)
-update_tells again grammar images s to UpdateGet k sound h = (status_so again grammar s success (omega arith) h, tt)
-update_tells again grammar images s to (StartUpdate u) k sound h = start_tells again grammar s to u (update_phase s) k h
-update_tells again grammar images s to UpdateCancel k sound h = cancel_tells again grammar s to (update_phase s) h
-update_tells again grammar images s to UpdateApply k sound h = apply_tells again grammar s to (update_phase s) (phase_has s.session.link s.durable.job h) h
+module _ (one : OneOctetIsKept) (two : TwoOctetsAreKept) where
+  update_tells : CanonicalIsRead → GrammarHolds → ImagesHaveMetadata → (s : NodeState) (to : ℕ) (request : UpdateRequest) → AreUpdateNumbers request → IsNodeState s → HasNumbers s.durable.job → TellsAfter (on_update s to request)
+  update_tells again grammar images s to (InformationGet first limit) k sound h = (information_so again grammar images s first limit k sound, tt)
+  update_tells again grammar images s to (MetadataCheck index metadata) k sound h = (metadata_so one two s (status_of (check s.durable index metadata)) index, tt)
+  update_tells again grammar images s to UpdateGet k sound h = (status_so again grammar s success (omega arith) h, tt)
+  update_tells again grammar images s to (StartUpdate u) k sound h = start_tells again grammar s to u (update_phase s) k h
+  update_tells again grammar images s to UpdateCancel k sound h = cancel_tells again grammar s to (update_phase s) h
+  update_tells again grammar images s to UpdateApply k sound h = apply_tells again grammar s to (update_phase s) (phase_has s.session.link s.durable.job h) h
 
--- ---- events
+  -- ---- events
 
-blob_tells : (s : NodeState) (replies : List (ℕ × BlobReply)) → Tells s (map by_blob replies)
-blob_tells s [] = tt
-blob_tells s (reply ∷ replies) = (blob_so s reply.1, blob_tells s replies)
+  blob_tells : (s : NodeState) (replies : List (ℕ × BlobReply)) → Tells s (map by_blob replies)
+  blob_tells s [] = tt
+  blob_tells s (reply ∷ replies) = (blob_so one two s reply.1, blob_tells s replies)
 
-served_tells : (s : NodeState) (o : Served) → TellsAfter (served s o)
-served_tells s o = blob_tells (served s o).next o.replies
+  served_tells : (s : NodeState) (o : Served) → TellsAfter (served s o)
+  served_tells s o = blob_tells (served s o).next o.replies
 
-request_tells : CanonicalIsRead → GrammarHolds → ImagesHaveMetadata → (s : NodeState) (from : ℕ) (request : Request) → AreRequestNumbers request → IsNodeState s → HasNumbers s.durable.job → TellsAfter (on_request s from request)
-request_tells again grammar images s from (OfUpdate request) k sound h = update_tells again grammar images s from request k sound h
-request_tells again grammar images s from (OfBlob request) k sound h = served_tells s (on_blob (server_of s) from request)
+  request_tells : CanonicalIsRead → GrammarHolds → ImagesHaveMetadata → (s : NodeState) (from : ℕ) (request : Request) → AreRequestNumbers request → IsNodeState s → HasNumbers s.durable.job → TellsAfter (on_request s from request)
+  request_tells again grammar images s from (OfUpdate request) k sound h = update_tells again grammar images s from request k sound h
+  request_tells again grammar images s from (OfBlob request) k sound h = served_tells s (on_blob (server_of s) from request)
 
-time_tells : (s : NodeState) (phase : UpdatePhase) → TellsAfter (on_time s phase)
-time_tells s (Applying j) = tt
-time_tells s (Verifying j) = tt
-time_tells s Idle = served_tells s (on_server_time (server_of s) (serving_in Idle))
-time_tells s (TransferError j) = served_tells s (on_server_time (server_of s) (serving_in (TransferError j)))
-time_tells s (TransferActive j) = served_tells s (on_server_time (server_of s) (serving_in (TransferActive j)))
-time_tells s (Succeeded j) = served_tells s (on_server_time (server_of s) (serving_in (Succeeded j)))
-time_tells s (Failed j) = served_tells s (on_server_time (server_of s) (serving_in (Failed j)))
+  time_tells : (s : NodeState) (phase : UpdatePhase) → TellsAfter (on_time s phase)
+  time_tells s (Applying j) = tt
+  time_tells s (Verifying j) = tt
+  time_tells s Idle = served_tells s (on_server_time (server_of s) (serving_in Idle))
+  time_tells s (TransferError j) = served_tells s (on_server_time (server_of s) (serving_in (TransferError j)))
+  time_tells s (TransferActive j) = served_tells s (on_server_time (server_of s) (serving_in (TransferActive j)))
+  time_tells s (Succeeded j) = served_tells s (on_server_time (server_of s) (serving_in (Succeeded j)))
+  time_tells s (Failed j) = served_tells s (on_server_time (server_of s) (serving_in (Failed j)))
 
--- what is told goes out in packets
-abbrev Says : NodeState → List Packet → Type 0
-Says s sent = AllByRecursion (λ (p : Packet). IsSo s (answer_at p.payload)) sent
+  -- what is told goes out in packets
+  abbrev Says : NodeState → List Packet → Type 0
+  Says s sent = AllByRecursion (λ (p : Packet). IsSo s (answer_at p.payload)) sent
 
-in_packets : (s : NodeState) (address : ℕ) (replies : List (ℕ × Reply)) → Tells s replies → Says s (map (reply_packet address) replies)
-in_packets s address [] h = tt
-in_packets s address (r ∷ replies) h = (h.0, in_packets s address replies h.1)
+  in_packets : (s : NodeState) (address : ℕ) (replies : List (ℕ × Reply)) → Tells s replies → Says s (map (reply_packet address) replies)
+  in_packets s address [] h = tt
+  in_packets s address (r ∷ replies) h = (h.0, in_packets s address replies h.1)
 
-packet_says : CanonicalIsRead → GrammarHolds → ImagesHaveMetadata → (config : NodeConfig) (s : NodeState) (from : ℕ) (request : Option Request) → MatchOption request (Unit {0}) AreRequestNumbers → IsNodeState s → HasNumbers s.durable.job → Says (on_packet config s from request).next (on_packet config s from request).sent
-packet_says again grammar images config s from (Some request) k sound h = in_packets (on_request s from request).next config.address (on_request s from request).replies (request_tells again grammar images s from request k sound h)
-packet_says again grammar images config s from None k sound h = tt
+  packet_says : CanonicalIsRead → GrammarHolds → ImagesHaveMetadata → (config : NodeConfig) (s : NodeState) (from : ℕ) (request : Option Request) → MatchOption request (Unit {0}) AreRequestNumbers → IsNodeState s → HasNumbers s.durable.job → Says (on_packet config s from request).next (on_packet config s from request).sent
+  packet_says again grammar images config s from (Some request) k sound h = in_packets (on_request s from request).next config.address (on_request s from request).replies (request_tells again grammar images s from request k sound h)
+  packet_says again grammar images config s from None k sound h = tt
 
-event_says : CanonicalIsRead → GrammarHolds → ImagesHaveMetadata → (config : NodeConfig) (s : NodeState) (event : NodeEvent) → AreNumbers event → IsNodeState s → HasNumbers s.durable.job → Says (on_event config s event).next (on_event config s event).sent
-event_says again grammar images config s (PacketComes packet) k sound h =
-    elim (is_addressee config packet) as (λ b. Says (cond b (on_packet config s packet.from (request_at packet.payload)) (passed_over s)).next (cond b (on_packet config s packet.from (request_at packet.payload)) (passed_over s)).sent) [ true ↦ packet_says again grammar images config s packet.from (request_at packet.payload) k sound h | false ↦ tt ]
-event_says again grammar images config s TimeComes k sound h = in_packets (on_time s (update_phase s)).next config.address (on_time s (update_phase s)).replies (time_tells s (update_phase s))
+  event_says : CanonicalIsRead → GrammarHolds → ImagesHaveMetadata → (config : NodeConfig) (s : NodeState) (event : NodeEvent) → AreNumbers event → IsNodeState s → HasNumbers s.durable.job → Says (on_event config s event).next (on_event config s event).sent
+  event_says again grammar images config s (PacketComes packet) k sound h =
+      elim (is_addressee config packet) as (λ b. Says (cond b (on_packet config s packet.from (request_at packet.payload)) (passed_over s)).next (cond b (on_packet config s packet.from (request_at packet.payload)) (passed_over s)).sent) [ true ↦ packet_says again grammar images config s packet.from (request_at packet.payload) k sound h | false ↦ tt ]
+  event_says again grammar images config s TimeComes k sound h = in_packets (on_time s (update_phase s)).next config.address (on_time s (update_phase s)).replies (time_tells s (update_phase s))
 
-moved : (s : NodeState) (now : ℕ) → IsNodeState s → IsNodeState (at_moment s now)
-moved s now h = record { durable = h.durable; fresh = h.fresh; current = h.current }
+  moved : (s : NodeState) (now : ℕ) → IsNodeState s → IsNodeState (at_moment s now)
+  moved s now h = record { durable = h.durable; fresh = h.fresh; current = h.current }
 
-pub told_is_so : GrammarHolds → CanonicalIsRead → ImagesHaveMetadata → ToldIsSo
-told_is_so grammar again images config s event now numbers h k = event_says again grammar images config (at_moment s now) event numbers (moved s now h) k
+  pub told_is_so : GrammarHolds → CanonicalIsRead → ImagesHaveMetadata → ToldIsSo
+  told_is_so grammar again images config s event now numbers h k = event_says again grammar images config (at_moment s now) event numbers (moved s now h) k

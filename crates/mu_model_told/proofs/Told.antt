@@ -2,23 +2,20 @@
 use Rattle.std.proofs.Common.{◌≡◌, ◌<◌, ◌≤◌, ℕ, zero, suc, ◌+◌, ◌*◌, ◌^◌, Bool, true, false, List, [], ◌∷◌, ◌++◌, length, map, take, drop, refl, sym, ap, subst, cond, arith, length-append, Option, Some, None, Result, Ok, Err}
 use Rattle.std.specs.Prelude.{◌==◌, ◌%◌, nat_lt, nat_le, slice_get}
 use Rattle.std.specs.List.{AllByRecursion}
-use Rattle.std.proofs.Math.Nat.{mod-eq_of_lt}
-use Rattle.std.proofs.Math.Dec.{ltb}
 use Rattle.std.proofs.lemmas.Bool.{le-ltb, le-leb, ne_eqb}
 use Rattle.std.proofs.lemmas.List.{length-map}
 use Rattle.byteorder.specs.Endian.{little_number, little_bytes}
-use Rattle.byteorder.specs.Numbers.{little_number-reads_back}
 use Rattle.mu_model_image.specs.Meta.{Image, firmware_id, own_company}
 use Rattle.mu_model_image.specs.Laws.{ImagesHaveMetadata}
-use Rattle.mu_model_wire.specs.Fields.{Fields, Shown}
+use Rattle.mu_model_wire.specs.Fields.{Shown, Message}
 use Rattle.mu_model_wire.specs.Names.{id}
 use Rattle.mu_model_wire.specs.Update.{entry_fields}
-use Rattle.mu_model_wire.specs.Reading.{◌>>=◌, Left, refuse, message_at, opcode_at, word_at, row_at, fields_at, fields_of}
+use Rattle.mu_model_wire.specs.Opcodes.{OneOctetIsKept, TwoOctetsAreKept}
+use Rattle.mu_model_wire.specs.Reading.{message_at}
 use Rattle.mu_model_wire.specs.Spelling.{entry_spelling, entries_spelling, Fits, EntriesFit}
 use Rattle.mu_model_wire.specs.Table.{rows}
 use Rattle.mu_model_wire.specs.Laws.{CanonicalIsRead, GrammarHolds}
 use Rattle.mu_model_wire.specs.declared.Refusal.{Refusal}
-use Rattle.mu_model_wire.specs.declared.Why.TheVariants.{Long}
 use Rattle.mu_model_node.specs.declared.Link.{Link}
 use Rattle.mu_model_node.specs.declared.Link.TheVariants.{Cut, Ready, Running}
 use Rattle.mu_model_node.specs.declared.Parameters.{Parameters}
@@ -36,63 +33,15 @@ use Rattle.mu_model_told.specs.Laws.{AreJobNumbers, HasNumbers, ids_of, IsSo}
 
 -- ---- opcodes
 
-word_first : (a at : ℕ) (os : List ℕ) → a < 256 → word_at 1 (record { at = at; octets = a ∷ os }) ≡ Ok (a, record { at = at + 1; octets = os })
-unfolding word_at
-word_first a at os small =
-    let e : a % 256 ≡ a = mod-eq_of_lt small in
-    let again : little_number 1 (a % 256 ∷ os) ≡ a = little_number-reads_back 1 a os (omega arith) in
-    let n : little_number 1 (a ∷ os) ≡ a = subst (λ x. little_number 1 (x ∷ os) ≡ a) e again in
-    let long : ltb (length (a ∷ os)) 1 ≡ false = le-ltb (length (a ∷ os)) 1 (omega arith) in
-    rw (long, n) refl
-
-two : (low : ℕ) (body : List ℕ) → opcode_at (record { at = 0; octets = 0x83 ∷ low ∷ body }) ≡ Ok (0x83 * 256 + low, record { at = 2; octets = body })
-unfolding opcode_at
-two low body = rw (word_first 0x83 0 (low ∷ body) (omega arith), ne_eqb (length (low ∷ body)) 0 (λ (none : length (low ∷ body) ≡ 0). omega arith)) refl
-
-one_67 : (body : List ℕ) → opcode_at (record { at = 0; octets = 0x67 ∷ body }) ≡ Ok (0x67, record { at = 1; octets = body })
-unfolding opcode_at
-one_67 body = rw (word_first 0x67 0 body (omega arith)) refl
-
-one_68 : (body : List ℕ) → opcode_at (record { at = 0; octets = 0x68 ∷ body }) ≡ Ok (0x68, record { at = 1; octets = body })
-unfolding opcode_at
-one_68 body = rw (word_first 0x68 0 body (omega arith)) refl
-
 -- nothing is said by a message of this opcode
 abbrev SaysNothing : NodeState → ℕ → Type 0
 SaysNothing s opcode = (fields : List Shown) (entries : List (List Shown)) → IsSo s (answer_of (record { opcode = opcode; fields = fields; entries = entries }))
 
-fields_other : (s : NodeState) (opcode : ℕ) → SaysNothing s opcode → (r : Result (List Shown × List (List Shown)) Refusal) → IsSo s (answer_in (r >>= λ x. Ok (record { opcode = opcode; fields = x.0; entries = x.1 })))
-fields_other s opcode n (Ok x) = n x.0 x.1
-fields_other s opcode n (Err e) = tt
-
-row_other : (s : NodeState) (found : Option Fields) (opcode : ℕ) (left : Left) → SaysNothing s opcode → IsSo s (answer_in (row_at found opcode left))
-row_other s None opcode left n = tt
-row_other s (Some fs) opcode left n = fields_other s opcode n (fields_at fs [] left)
-
-other : (s : NodeState) (opcode : ℕ) (left : Left) (bytes : List ℕ) → opcode_at (record { at = 0; octets = bytes }) ≡ Ok (opcode, left) → SaysNothing s opcode → IsSo s (answer_at bytes)
-other s opcode left bytes e n = by_length (nat_lt 380 (length bytes))
-  where
-    by_length : (b : Bool) → IsSo s (answer_in (cond b (refuse 380 Long) (opcode_at (record { at = 0; octets = bytes }) >>= λ opcode. row_at (fields_of rows opcode.0) opcode.0 opcode.1)))
-    by_length true = tt
-    by_length false = rw e (row_other s (fields_of rows opcode) opcode left n)
-
-other_two : (s : NodeState) (bytes : List ℕ) (low : ℕ) (body : List ℕ) → bytes ≡ 0x83 ∷ low ∷ body → SaysNothing s (0x83 * 256 + low) → IsSo s (answer_at bytes)
-other_two s bytes low body e n = rw e (other s (0x83 * 256 + low) _ _ (two low body) n)
-
-other_67 : (s : NodeState) (bytes body : List ℕ) → bytes ≡ 0x67 ∷ body → IsSo s (answer_at bytes)
-other_67 s bytes body e = rw e (other s 0x67 _ _ (one_67 body) (λ fields entries. tt))
-
-other_68 : (s : NodeState) (bytes body : List ℕ) → bytes ≡ 0x68 ∷ body → IsSo s (answer_at bytes)
-other_68 s bytes body e = rw e (other s 0x68 _ _ (one_68 body) (λ fields entries. tt))
-
-pub blob_so : (s : NodeState) (reply : BlobReply) → IsSo s (answer_at (reply_octets (ByBlob reply)))
-blob_so s (BlobInformationStatus capacity) = other_two s (reply_octets (ByBlob (BlobInformationStatus capacity))) 0x07 _ refl (λ fields entries. tt)
-blob_so s (TransferStatus result means stage transfer parameters absent) = other_two s (reply_octets (ByBlob (TransferStatus result means stage transfer parameters absent))) 0x03 _ refl (λ fields entries. tt)
-blob_so s (BlockStatus result n os report) = other_67 s (reply_octets (ByBlob (BlockStatus result n os report))) _ refl
-blob_so s (PartialBlockReport chunks) = other_68 s (reply_octets (ByBlob (PartialBlockReport chunks))) _ refl
-
-pub metadata_so : (s : NodeState) (status index : ℕ) → IsSo s (answer_at (reply_octets (ByUpdate (MetadataStatus status index))))
-metadata_so s status index = other_two s (reply_octets (ByUpdate (MetadataStatus status index))) 0x0B _ refl (λ fields entries. tt)
+other : (s : NodeState) (opcode : ℕ) (r : Result Message Refusal) → ((m : Message) → r ≡ Ok m → m.opcode ≡ opcode) → SaysNothing s opcode → IsSo s (answer_in r)
+other s opcode (Ok m) keeps n =
+    let same : opcode ≡ m.opcode = sym (keeps m refl) in
+    subst (λ (o : ℕ). IsSo s (answer_of (record { opcode = o; fields = m.fields; entries = m.entries }))) same (n m.fields m.entries)
+other s opcode (Err e) keeps n = tt
 
 -- ---- the phase
 
@@ -210,3 +159,24 @@ information_so again grammar law s first limit f h =
     let few : length (take limit (drop first ids)) ≤ 2 = omega (arith, taken_few limit (drop first ids), dropped_few first ids, length-map s.durable.images (λ (image : Image). firmware_id own_company image.meta), h.durable.two_images) in
     let all : length s.durable.images < 256 = omega (arith, h.durable.two_images) in
     rw (information_read again grammar (length s.durable.images) first (take limit (drop first ids)) all f few (all_taken limit (drop first ids) (all_dropped first ids own))) (refl, limit, refl)
+
+-- ---- what says no phase
+
+module _ (one : OneOctetIsKept) (two : TwoOctetsAreKept) where
+  other_two : (s : NodeState) (bytes : List ℕ) (low : ℕ) (body : List ℕ) → bytes ≡ 0x83 ∷ low ∷ body → SaysNothing s (0x83 * 256 + low) → IsSo s (answer_at bytes)
+  other_two s bytes low body e n = rw e (other s (0x83 * 256 + low) (message_at rows (0x83 ∷ low ∷ body)) (two rows 0x83 low body (omega arith) (omega arith)) n)
+
+  other_67 : (s : NodeState) (bytes body : List ℕ) → bytes ≡ 0x67 ∷ body → IsSo s (answer_at bytes)
+  other_67 s bytes body e = rw e (other s 0x67 (message_at rows (0x67 ∷ body)) (one rows 0x67 body (omega arith)) (λ fields entries. tt))
+
+  other_68 : (s : NodeState) (bytes body : List ℕ) → bytes ≡ 0x68 ∷ body → IsSo s (answer_at bytes)
+  other_68 s bytes body e = rw e (other s 0x68 (message_at rows (0x68 ∷ body)) (one rows 0x68 body (omega arith)) (λ fields entries. tt))
+
+  pub blob_so : (s : NodeState) (reply : BlobReply) → IsSo s (answer_at (reply_octets (ByBlob reply)))
+  blob_so s (BlobInformationStatus capacity) = other_two s (reply_octets (ByBlob (BlobInformationStatus capacity))) 0x07 _ refl (λ fields entries. tt)
+  blob_so s (TransferStatus result means stage transfer parameters absent) = other_two s (reply_octets (ByBlob (TransferStatus result means stage transfer parameters absent))) 0x03 _ refl (λ fields entries. tt)
+  blob_so s (BlockStatus result n os report) = other_67 s (reply_octets (ByBlob (BlockStatus result n os report))) _ refl
+  blob_so s (PartialBlockReport chunks) = other_68 s (reply_octets (ByBlob (PartialBlockReport chunks))) _ refl
+
+  pub metadata_so : (s : NodeState) (status index : ℕ) → IsSo s (answer_at (reply_octets (ByUpdate (MetadataStatus status index))))
+  metadata_so s status index = other_two s (reply_octets (ByUpdate (MetadataStatus status index))) 0x0B _ refl (λ fields entries. tt)

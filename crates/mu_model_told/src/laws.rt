@@ -3,7 +3,9 @@
 ghost use Rattle.mu_model_told.specs.Laws.{NumbersStay, OctetsSayNumbers, ToldIsSo};
 ghost use Rattle.mu_model_told.specs.Reached.{SentIsReached, ToldIsReached};
 
-use mu_model_wire::laws::{canonical_is_read, grammar_holds, reads_what_is_spelled};
+use mu_model_wire::laws::{
+    canonical_is_read, grammar_holds, opcodes_are_kept, reads_what_is_spelled,
+};
 
 /// What octets say to a node is in the ranges of the grammar.
 pub fn octets_say_numbers()
@@ -20,6 +22,7 @@ pub fn told_is_so()
 {
     grammar_holds();
     canonical_is_read();
+    opcodes_are_kept();
     mu_model_image::laws::images();
 }
 
@@ -30,6 +33,7 @@ pub fn told_is_reached()
 {
     grammar_holds();
     canonical_is_read();
+    opcodes_are_kept();
     mu_model_image::laws::images();
     mu_model_node::laws::states_are_sound();
     mu_model_node::laws::flash_work();

@@ -4,6 +4,8 @@ use Rattle.mu_model_told.proofs.laws.told_is_reached.Goals as goal
 
 pub returns-clause-event : goal.returns-clause-event
 returns-clause-event c = told_is_reached (record {
+  one = c.opcodes_are_kept.ensures.one;
+  two = c.opcodes_are_kept.ensures.two;
   grammar = c.grammar_holds.ensures;
   again = c.canonical_is_read.ensures;
   images = c.images.ensures.metadata;
@@ -15,6 +17,8 @@ returns-clause-event c = told_is_reached (record {
 
 pub returns-clause-all : goal.returns-clause-all
 returns-clause-all c = sent_is_reached (record {
+  one = c.opcodes_are_kept.ensures.one;
+  two = c.opcodes_are_kept.ensures.two;
   grammar = c.grammar_holds.ensures;
   again = c.canonical_is_read.ensures;
   images = c.images.ensures.metadata;

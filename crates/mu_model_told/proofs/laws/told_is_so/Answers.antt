@@ -6,4 +6,4 @@ pub returns-clause-numbers : goal.returns-clause-numbers
 returns-clause-numbers c = numbers_stay
 
 pub returns-clause-so : goal.returns-clause-so
-returns-clause-so c = told_is_so c.grammar_holds.ensures c.canonical_is_read.ensures c.images.ensures.metadata
+returns-clause-so c = told_is_so c.opcodes_are_kept.ensures.one c.opcodes_are_kept.ensures.two c.grammar_holds.ensures c.canonical_is_read.ensures c.images.ensures.metadata
