@@ -5,6 +5,7 @@ use Rattle.std.specs.List.{AllByRecursion}
 use Rattle.std.proofs.lemmas.Option.{slice_get_within, slice_get_cases, get_or_from_slice_get}
 use Rattle.mu_model_image.specs.Laws.{MetaIsReadBack}
 use Rattle.mu_model_image.specs.Meta.{meta_octets}
+use Rattle.mu_model_wire.specs.Opcodes.{OneOctetIsKept, TwoOctetsAreKept}
 use Rattle.mu_model_wire.specs.Packet.{Packet}
 use Rattle.mu_model_node.specs.declared.FlashWork.{FlashWork}
 use Rattle.mu_model_node.specs.declared.FlashWork.TheVariants.{Untouched, Recorded, Begun, PutBlock}
@@ -60,7 +61,7 @@ first_of P old new (Recorded is_long) h = h.0
 first_of P old new (Begun is_long) h = h.0
 first_of P old new (PutBlock pages) h = h.0
 
-module _ (below : Below) (again : MetaIsReadBack) (reads : RequestsAreRead) where
+module _ (one : OneOctetIsKept) (two : TwoOctetsAreKept) (below : Below) (again : MetaIsReadBack) (reads : RequestsAreRead) where
   sends_of : (address : ℕ) (s : DistState) (event : NodeEvent) (now : ℕ) → IsInOrder address s → EventFits event → (b : Bool) → is_at_rest s.durable.phase ≡ b → OfImages address s.durable (dist_step address s event now).sends
   sends_of address s event now h fits true rest = at_rest address s.durable (dist_step address s event now).sends (below.silent address s event now h.sound rest)
   sends_of address s event now h fits false busy =
@@ -72,7 +73,7 @@ module _ (below : Below) (again : MetaIsReadBack) (reads : RequestsAreRead) wher
   all_read : (address : ℕ) (d : DistDurable) (sends : List (ℕ × Sent)) → address < 2 ^ 16 → AllByRecursion (IsOwnAs address) sends → OfImages address d sends
       → AllByRecursion (λ (p : Packet). (u : UpdateStart) → request_at p.payload ≡ Some (OfUpdate (StartUpdate u)) → IsOfImage address d u) (map (sent_packet address) sends)
   all_read address d [] small own h = tt
-  all_read address d ((to, sent) ∷ sends) small own h = (λ u e. h.0 u (sent_says reads address to sent u small own.0 e), all_read address d sends small own.1 h.1)
+  all_read address d ((to, sent) ∷ sends) small own h = (λ u e. h.0 u (sent_says one two reads address to sent u small own.0 e), all_read address d sends small own.1 h.1)
 
   pub starts_are_of_images : StartsAreOfImages
   starts_are_of_images address s event now small h fits =

@@ -3,6 +3,7 @@ use Rattle.std.proofs.Common.{◌≡◌, ◌<◌, ℕ, ◌^◌, true, false, Lis
 use Rattle.std.specs.Prelude.{◌==◌}
 use Rattle.std.specs.List.{AllByRecursion}
 use Rattle.mu_model_image.specs.Laws.{MetaIsReadBack}
+use Rattle.mu_model_wire.specs.Opcodes.{OneOctetIsKept, TwoOctetsAreKept}
 use Rattle.mu_model_wire.specs.Packet.{Packet}
 use Rattle.mu_model_node.specs.UpdateMessages.{UpdateStart, UpdateRequest, InformationGet, MetadataCheck, UpdateGet, StartUpdate, UpdateCancel, UpdateApply}
 use Rattle.mu_model_node.specs.NodeMessages.{Request, OfUpdate, OfBlob, request_at}
@@ -70,28 +71,29 @@ start_says reads address to v u small h e =
     let start : v ≡ u = cc in
     ap (λ x. ByClient (OfUpdate (StartUpdate x))) start
 
-update_says : RequestsAreRead → (address to : ℕ) (request : UpdateRequest) (u : UpdateStart) → address < 2 ^ 16 → IsOwnAs address (to, ByClient (OfUpdate request)) → Says (ByClient (OfUpdate request)) u
-update_says reads address to (StartUpdate v) u small h = start_says reads address to v u small h
-update_says reads address to (InformationGet first limit) u small h = λ e. never _ u (information_other first limit) e
-update_says reads address to (MetadataCheck index metadata) u small h = λ e. never _ u (check_other index metadata) e
-update_says reads address to UpdateGet u small h = λ e. never _ u get_other e
-update_says reads address to UpdateCancel u small h = λ e. never _ u cancel_other e
-update_says reads address to UpdateApply u small h = λ e. never _ u apply_other e
+module _ (one : OneOctetIsKept) (two : TwoOctetsAreKept) where
+  update_says : RequestsAreRead → (address to : ℕ) (request : UpdateRequest) (u : UpdateStart) → address < 2 ^ 16 → IsOwnAs address (to, ByClient (OfUpdate request)) → Says (ByClient (OfUpdate request)) u
+  update_says reads address to (StartUpdate v) u small h = start_says reads address to v u small h
+  update_says reads address to (InformationGet first limit) u small h = λ e. never _ u (information_other one two first limit) e
+  update_says reads address to (MetadataCheck index metadata) u small h = λ e. never _ u (check_other one two index metadata) e
+  update_says reads address to UpdateGet u small h = λ e. never _ u (get_other one two) e
+  update_says reads address to UpdateCancel u small h = λ e. never _ u (cancel_other one two) e
+  update_says reads address to UpdateApply u small h = λ e. never _ u (apply_other one two) e
 
-pub sent_says : RequestsAreRead → (address to : ℕ) (sent : Sent) (u : UpdateStart) → address < 2 ^ 16 → IsOwnAs address (to, sent) → Says sent u
-sent_says reads address to (ByDistribution reply) u small h = λ e. never _ u (reply_other reply) e
-sent_says reads address to (ByBlob reply) u small h = λ e. never _ u (blob_other reply) e
-sent_says reads address to (ByClient (OfUpdate request)) u small h = update_says reads address to request u small h
-sent_says reads address to (ByClient (OfBlob request)) u small h = λ e. never _ u (transfer_other request) e
+  pub sent_says : RequestsAreRead → (address to : ℕ) (sent : Sent) (u : UpdateStart) → address < 2 ^ 16 → IsOwnAs address (to, sent) → Says sent u
+  sent_says reads address to (ByDistribution reply) u small h = λ e. never _ u (reply_other one two reply) e
+  sent_says reads address to (ByBlob reply) u small h = λ e. never _ u (blob_other one two reply) e
+  sent_says reads address to (ByClient (OfUpdate request)) u small h = update_says reads address to request u small h
+  sent_says reads address to (ByClient (OfBlob request)) u small h = λ e. never _ u (transfer_other one two request) e
 
--- ---- runs
+  -- ---- runs
 
-all_say : RequestsAreRead → (r : Run) (sends : List (ℕ × Sent)) → r.address < 2 ^ 16 → AllByRecursion (IsOwnAs r.address) sends → ((to : ℕ) (u : UpdateStart) → HasStart sends to u → HasStart (sent_of r) to u) → AllByRecursion (IsPacketOf r) (map (sent_packet r.address) sends)
-all_say reads r [] small h w = tt
-all_say reads r ((to, sent) ∷ sends) small h w =
-    (record { from = refl; start = λ u e. w to u (inl (refl, sent_says reads r.address to sent u small h.0 e)) }, all_say reads r sends small h.1 (λ at u k. w at u (inr k)))
+  all_say : RequestsAreRead → (r : Run) (sends : List (ℕ × Sent)) → r.address < 2 ^ 16 → AllByRecursion (IsOwnAs r.address) sends → ((to : ℕ) (u : UpdateStart) → HasStart sends to u → HasStart (sent_of r) to u) → AllByRecursion (IsPacketOf r) (map (sent_packet r.address) sends)
+  all_say reads r [] small h w = tt
+  all_say reads r ((to, sent) ∷ sends) small h w =
+      (record { from = refl; start = λ u e. w to u (inl (refl, sent_says reads r.address to sent u small h.0 e)) }, all_say reads r sends small h.1 (λ at u k. w at u (inr k)))
 
-pub packets_say : Below → MetaIsReadBack → StartsAreInOrder → RequestsAreRead → PacketsSayStarts
-packets_say below again order reads r h small =
-    subst (AllByRecursion (IsPacketOf r)) (sym (run_spelled r.address (begin_of r) r.happenings))
-    (all_say reads r (sent_of r) small (run_own below again r.address (begin_of r) r.happenings h.happenings (begin_order order r h)) (λ to u k. k))
+  pub packets_say : Below → MetaIsReadBack → StartsAreInOrder → RequestsAreRead → PacketsSayStarts
+  packets_say below again order reads r h small =
+      subst (AllByRecursion (IsPacketOf r)) (sym (run_spelled r.address (begin_of r) r.happenings))
+      (all_say reads r (sent_of r) small (run_own below again r.address (begin_of r) r.happenings h.happenings (begin_order order r h)) (λ to u k. k))

@@ -1,16 +1,11 @@
 -- Of what a distributor sends, only an Update Start is read as one.
-use Rattle.std.proofs.Common.{◌≡◌, ◌<◌, ℕ, ◌+◌, ◌*◌, ◌%◌, Bool, true, false, List, [], ◌∷◌, length, refl, subst, cond, arith, Option, Some, None, Result, Ok, Err}
+use Rattle.std.proofs.Common.{◌≡◌, ◌<◌, ℕ, ◌+◌, ◌*◌, ◌%◌, Bool, true, false, List, [], ◌∷◌, length, refl, sym, subst, cond, arith, Option, Some, None, Result, Ok, Err}
 use Rattle.std.specs.Prelude.{◌==◌, nat_lt}
-use Rattle.std.proofs.Math.Nat.{mod-eq_of_lt}
-use Rattle.std.proofs.Math.Dec.{ltb}
-use Rattle.std.proofs.lemmas.Bool.{le-ltb, ne_eqb}
-use Rattle.byteorder.specs.Endian.{little_number}
-use Rattle.byteorder.specs.Numbers.{little_number-reads_back}
-use Rattle.mu_model_wire.specs.Fields.{Fields, Shown, Message}
-use Rattle.mu_model_wire.specs.Reading.{◌>>=◌, Left, refuse, opcode_at, word_at, row_at, fields_at, fields_of}
+use Rattle.mu_model_wire.specs.Fields.{Message}
+use Rattle.mu_model_wire.specs.Opcodes.{OneOctetIsKept, TwoOctetsAreKept}
+use Rattle.mu_model_wire.specs.Reading.{message_at}
 use Rattle.mu_model_wire.specs.Table.{rows}
 use Rattle.mu_model_wire.specs.declared.Refusal.{Refusal}
-use Rattle.mu_model_wire.specs.declared.Why.TheVariants.{Long}
 use Rattle.mu_model_node.specs.UpdateMessages.{UpdateRequest, InformationGet, MetadataCheck, UpdateGet, StartUpdate, UpdateCancel, UpdateApply, update_request_of}
 use Rattle.mu_model_node.specs.BlobMessages.{BlobRequest, TransferGet, TransferStart, TransferCancel, BlockStart, BlockGet, BlobInformationGet, ChunkTransfer, BlobReply, BlobInformationStatus, TransferStatus, BlockStatus, PartialBlockReport, blob_request_of}
 use Rattle.mu_model_node.specs.NodeMessages.{Request, OfUpdate, OfBlob, either_request, request_in, request_at}
@@ -51,94 +46,59 @@ request_other (Some UpdateApply) blob h = tt
 request_other None (Some request) h = tt
 request_other None None h = tt
 
-fields_other : (opcode : ℕ) → (opcode == 0x830D) ≡ false → (r : Result (List Shown × List (List Shown)) Refusal) → IsOther (request_in (r >>= λ shown. Ok (record { opcode = opcode; fields = shown.0; entries = shown.1 })))
-fields_other opcode n (Ok shown) = request_other _ (blob_request_of (record { opcode = opcode; fields = shown.0; entries = shown.1 })) (update_other (record { opcode = opcode; fields = shown.0; entries = shown.1 }) n)
-fields_other opcode n (Err e) = tt
-
-row_other : (found : Option Fields) (opcode : ℕ) (left : Left) → (opcode == 0x830D) ≡ false → IsOther (request_in (row_at found opcode left))
-row_other None opcode left n = tt
-row_other (Some fs) opcode left n = fields_other opcode n (fields_at fs [] left)
-
-other : (opcode : ℕ) (left : Left) (bytes : List ℕ) → opcode_at (record { at = 0; octets = bytes }) ≡ Ok (opcode, left) → (opcode == 0x830D) ≡ false → IsOther (request_at bytes)
-other opcode left bytes e n = by_length (nat_lt 380 (length bytes))
-  where
-    by_length : (b : Bool) → IsOther (request_in (cond b (refuse 380 Long) (opcode_at (record { at = 0; octets = bytes }) >>= λ opcode. row_at (fields_of rows opcode.0) opcode.0 opcode.1)))
-    by_length true = tt
-    by_length false = rw e (row_other (fields_of rows opcode) opcode left n)
-
-word_first : (a at : ℕ) (os : List ℕ) → a < 256 → word_at 1 (record { at = at; octets = a ∷ os }) ≡ Ok (a, record { at = at + 1; octets = os })
-unfolding word_at
-word_first a at os small =
-    let e : a % 256 ≡ a = mod-eq_of_lt small in
-    let again : little_number 1 (a % 256 ∷ os) ≡ a = little_number-reads_back 1 a os (omega arith) in
-    let n : little_number 1 (a ∷ os) ≡ a = subst (λ x. little_number 1 (x ∷ os) ≡ a) e again in
-    let long : ltb (length (a ∷ os)) 1 ≡ false = le-ltb (length (a ∷ os)) 1 (omega arith) in
-    rw (long, n) refl
-
-two : (low : ℕ) (body : List ℕ) → opcode_at (record { at = 0; octets = 0x83 ∷ low ∷ body }) ≡ Ok (0x83 * 256 + low, record { at = 2; octets = body })
-unfolding opcode_at
-two low body = rw (word_first 0x83 0 (low ∷ body) (omega arith), ne_eqb (length (low ∷ body)) 0 (λ (none : length (low ∷ body) ≡ 0). omega arith)) refl
-
-one_66 : (body : List ℕ) → opcode_at (record { at = 0; octets = 0x66 ∷ body }) ≡ Ok (0x66, record { at = 1; octets = body })
-unfolding opcode_at
-one_66 body = rw (word_first 0x66 0 body (omega arith)) refl
-
-one_67 : (body : List ℕ) → opcode_at (record { at = 0; octets = 0x67 ∷ body }) ≡ Ok (0x67, record { at = 1; octets = body })
-unfolding opcode_at
-one_67 body = rw (word_first 0x67 0 body (omega arith)) refl
-
-one_68 : (body : List ℕ) → opcode_at (record { at = 0; octets = 0x68 ∷ body }) ≡ Ok (0x68, record { at = 1; octets = body })
-unfolding opcode_at
-one_68 body = rw (word_first 0x68 0 body (omega arith)) refl
-
-other_83 : (bytes : List ℕ) (low : ℕ) (body : List ℕ) → bytes ≡ 0x83 ∷ low ∷ body → (0x83 * 256 + low == 0x830D) ≡ false → IsOther (request_at bytes)
-other_83 bytes low body e n = rw e (other (0x83 * 256 + low) _ _ (two low body) n)
-
-other_66 : (bytes body : List ℕ) → bytes ≡ 0x66 ∷ body → IsOther (request_at bytes)
-other_66 bytes body e = rw e (other 0x66 _ _ (one_66 body) refl)
-
-other_67 : (bytes body : List ℕ) → bytes ≡ 0x67 ∷ body → IsOther (request_at bytes)
-other_67 bytes body e = rw e (other 0x67 _ _ (one_67 body) refl)
-
-other_68 : (bytes body : List ℕ) → bytes ≡ 0x68 ∷ body → IsOther (request_at bytes)
-other_68 bytes body e = rw e (other 0x68 _ _ (one_68 body) refl)
+other : (opcode : ℕ) (r : Result Message Refusal) → ((m : Message) → r ≡ Ok m → m.opcode ≡ opcode) → (opcode == 0x830D) ≡ false → IsOther (request_in r)
+other opcode (Ok m) keeps n = request_other _ (blob_request_of m) (update_other m (subst (λ (o : ℕ). (o == 0x830D) ≡ false) (sym (keeps m refl)) n))
+other opcode (Err e) keeps n = tt
 
 -- ---- what is sent
 
-pub reply_other : (reply : DistReply) → IsOther (request_at (sent_octets (ByDistribution reply)))
-reply_other (ReceiversStatus result count) = other_83 (sent_octets (ByDistribution (ReceiversStatus result count))) 0x13 _ refl refl
-reply_other (ReceiversList all from given) = other_83 (sent_octets (ByDistribution (ReceiversList all from given))) 0x15 _ refl refl
-reply_other (CapabilitiesStatus capacity empty) = other_83 (sent_octets (ByDistribution (CapabilitiesStatus capacity empty))) 0x17 _ refl refl
-reply_other (DistributionStatus result stage settings) = other_83 (sent_octets (ByDistribution (DistributionStatus result stage settings))) 0x1D _ refl refl
-reply_other (UploadStatus result stage upload) = other_83 (sent_octets (ByDistribution (UploadStatus result stage upload))) 0x22 _ refl refl
-reply_other (FirmwareStatus result stored place found) = other_83 (sent_octets (ByDistribution (FirmwareStatus result stored place found))) 0x27 _ refl refl
+module _ (one : OneOctetIsKept) (two : TwoOctetsAreKept) where
+  other_83 : (bytes : List ℕ) (low : ℕ) (body : List ℕ) → bytes ≡ 0x83 ∷ low ∷ body → (0x83 * 256 + low == 0x830D) ≡ false → IsOther (request_at bytes)
+  other_83 bytes low body e n = rw e (other (0x83 * 256 + low) (message_at rows (0x83 ∷ low ∷ body)) (two rows 0x83 low body (omega arith) (omega arith)) n)
 
-pub blob_other : (reply : BlobReply) → IsOther (request_at (sent_octets (ByBlob reply)))
-blob_other (BlobInformationStatus capacity) = other_83 (sent_octets (ByBlob (BlobInformationStatus capacity))) 0x07 _ refl refl
-blob_other (TransferStatus result means stage transfer parameters absent) = other_83 (sent_octets (ByBlob (TransferStatus result means stage transfer parameters absent))) 0x03 _ refl refl
-blob_other (BlockStatus result n octets report) = other_67 (sent_octets (ByBlob (BlockStatus result n octets report))) _ refl
-blob_other (PartialBlockReport chunks) = other_68 (sent_octets (ByBlob (PartialBlockReport chunks))) _ refl
+  other_66 : (bytes body : List ℕ) → bytes ≡ 0x66 ∷ body → IsOther (request_at bytes)
+  other_66 bytes body e = rw e (other 0x66 (message_at rows (0x66 ∷ body)) (one rows 0x66 body (omega arith)) refl)
 
-pub transfer_other : (request : BlobRequest) → IsOther (request_at (sent_octets (ByClient (OfBlob request))))
-transfer_other TransferGet = other_83 (sent_octets (ByClient (OfBlob TransferGet))) 0x00 _ refl refl
-transfer_other (TransferStart transfer p) = other_83 (sent_octets (ByClient (OfBlob (TransferStart transfer p)))) 0x01 _ refl refl
-transfer_other (TransferCancel transfer) = other_83 (sent_octets (ByClient (OfBlob (TransferCancel transfer)))) 0x02 _ refl refl
-transfer_other (BlockStart block length) = other_83 (sent_octets (ByClient (OfBlob (BlockStart block length)))) 0x04 _ refl refl
-transfer_other BlockGet = other_83 (sent_octets (ByClient (OfBlob BlockGet))) 0x05 _ refl refl
-transfer_other BlobInformationGet = other_83 (sent_octets (ByClient (OfBlob BlobInformationGet))) 0x06 _ refl refl
-transfer_other (ChunkTransfer chunk part) = other_66 (sent_octets (ByClient (OfBlob (ChunkTransfer chunk part)))) _ refl
+  other_67 : (bytes body : List ℕ) → bytes ≡ 0x67 ∷ body → IsOther (request_at bytes)
+  other_67 bytes body e = rw e (other 0x67 (message_at rows (0x67 ∷ body)) (one rows 0x67 body (omega arith)) refl)
 
-pub information_other : (first limit : ℕ) → IsOther (request_at (sent_octets (ByClient (OfUpdate (InformationGet first limit)))))
-information_other first limit = other_83 (sent_octets (ByClient (OfUpdate (InformationGet first limit)))) 0x08 _ refl refl
+  other_68 : (bytes body : List ℕ) → bytes ≡ 0x68 ∷ body → IsOther (request_at bytes)
+  other_68 bytes body e = rw e (other 0x68 (message_at rows (0x68 ∷ body)) (one rows 0x68 body (omega arith)) refl)
 
-pub check_other : (index : ℕ) (metadata : List ℕ) → IsOther (request_at (sent_octets (ByClient (OfUpdate (MetadataCheck index metadata)))))
-check_other index metadata = other_83 (sent_octets (ByClient (OfUpdate (MetadataCheck index metadata)))) 0x0A _ refl refl
+  pub reply_other : (reply : DistReply) → IsOther (request_at (sent_octets (ByDistribution reply)))
+  reply_other (ReceiversStatus result count) = other_83 (sent_octets (ByDistribution (ReceiversStatus result count))) 0x13 _ refl refl
+  reply_other (ReceiversList all from given) = other_83 (sent_octets (ByDistribution (ReceiversList all from given))) 0x15 _ refl refl
+  reply_other (CapabilitiesStatus capacity empty) = other_83 (sent_octets (ByDistribution (CapabilitiesStatus capacity empty))) 0x17 _ refl refl
+  reply_other (DistributionStatus result stage settings) = other_83 (sent_octets (ByDistribution (DistributionStatus result stage settings))) 0x1D _ refl refl
+  reply_other (UploadStatus result stage upload) = other_83 (sent_octets (ByDistribution (UploadStatus result stage upload))) 0x22 _ refl refl
+  reply_other (FirmwareStatus result stored place found) = other_83 (sent_octets (ByDistribution (FirmwareStatus result stored place found))) 0x27 _ refl refl
 
-pub get_other : IsOther (request_at (sent_octets (ByClient (OfUpdate UpdateGet))))
-get_other = other_83 (sent_octets (ByClient (OfUpdate UpdateGet))) 0x0C _ refl refl
+  pub blob_other : (reply : BlobReply) → IsOther (request_at (sent_octets (ByBlob reply)))
+  blob_other (BlobInformationStatus capacity) = other_83 (sent_octets (ByBlob (BlobInformationStatus capacity))) 0x07 _ refl refl
+  blob_other (TransferStatus result means stage transfer parameters absent) = other_83 (sent_octets (ByBlob (TransferStatus result means stage transfer parameters absent))) 0x03 _ refl refl
+  blob_other (BlockStatus result n octets report) = other_67 (sent_octets (ByBlob (BlockStatus result n octets report))) _ refl
+  blob_other (PartialBlockReport chunks) = other_68 (sent_octets (ByBlob (PartialBlockReport chunks))) _ refl
 
-pub cancel_other : IsOther (request_at (sent_octets (ByClient (OfUpdate UpdateCancel))))
-cancel_other = other_83 (sent_octets (ByClient (OfUpdate UpdateCancel))) 0x0E _ refl refl
+  pub transfer_other : (request : BlobRequest) → IsOther (request_at (sent_octets (ByClient (OfBlob request))))
+  transfer_other TransferGet = other_83 (sent_octets (ByClient (OfBlob TransferGet))) 0x00 _ refl refl
+  transfer_other (TransferStart transfer p) = other_83 (sent_octets (ByClient (OfBlob (TransferStart transfer p)))) 0x01 _ refl refl
+  transfer_other (TransferCancel transfer) = other_83 (sent_octets (ByClient (OfBlob (TransferCancel transfer)))) 0x02 _ refl refl
+  transfer_other (BlockStart block length) = other_83 (sent_octets (ByClient (OfBlob (BlockStart block length)))) 0x04 _ refl refl
+  transfer_other BlockGet = other_83 (sent_octets (ByClient (OfBlob BlockGet))) 0x05 _ refl refl
+  transfer_other BlobInformationGet = other_83 (sent_octets (ByClient (OfBlob BlobInformationGet))) 0x06 _ refl refl
+  transfer_other (ChunkTransfer chunk part) = other_66 (sent_octets (ByClient (OfBlob (ChunkTransfer chunk part)))) _ refl
 
-pub apply_other : IsOther (request_at (sent_octets (ByClient (OfUpdate UpdateApply))))
-apply_other = other_83 (sent_octets (ByClient (OfUpdate UpdateApply))) 0x0F _ refl refl
+  pub information_other : (first limit : ℕ) → IsOther (request_at (sent_octets (ByClient (OfUpdate (InformationGet first limit)))))
+  information_other first limit = other_83 (sent_octets (ByClient (OfUpdate (InformationGet first limit)))) 0x08 _ refl refl
+
+  pub check_other : (index : ℕ) (metadata : List ℕ) → IsOther (request_at (sent_octets (ByClient (OfUpdate (MetadataCheck index metadata)))))
+  check_other index metadata = other_83 (sent_octets (ByClient (OfUpdate (MetadataCheck index metadata)))) 0x0A _ refl refl
+
+  pub get_other : IsOther (request_at (sent_octets (ByClient (OfUpdate UpdateGet))))
+  get_other = other_83 (sent_octets (ByClient (OfUpdate UpdateGet))) 0x0C _ refl refl
+
+  pub cancel_other : IsOther (request_at (sent_octets (ByClient (OfUpdate UpdateCancel))))
+  cancel_other = other_83 (sent_octets (ByClient (OfUpdate UpdateCancel))) 0x0E _ refl refl
+
+  pub apply_other : IsOther (request_at (sent_octets (ByClient (OfUpdate UpdateApply))))
+  apply_other = other_83 (sent_octets (ByClient (OfUpdate UpdateApply))) 0x0F _ refl refl

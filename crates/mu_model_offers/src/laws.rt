@@ -32,6 +32,7 @@ pub fn packets_say_starts()
     ensures { PacketsSayStarts }
 {
     mu_model_image::laws::metadata();
+    mu_model_wire::laws::opcodes_are_kept();
     mu_model_client_laws::laws::requests_are_read();
     mu_model_distributor_laws::laws::states_are_sound();
     mu_model_distributor_laws::laws::flash_work();
@@ -47,6 +48,7 @@ pub fn starts_are_of_images()
     ensures { StartsAreOfImages }
 {
     mu_model_image::laws::metadata();
+    mu_model_wire::laws::opcodes_are_kept();
     mu_model_client_laws::laws::requests_are_read();
     mu_model_distributor_laws::laws::states_are_sound();
     mu_model_distributor_laws::laws::flash_work();

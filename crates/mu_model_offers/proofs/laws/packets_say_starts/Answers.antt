@@ -17,4 +17,4 @@ below c = record {
 }
 
 pub returns : goal.returns
-returns c = packets_say (below c) c.metadata.ensures.read_back c.starts_are_in_order.ensures.order c.requests_are_read.ensures
+returns c = packets_say c.opcodes_are_kept.ensures.one c.opcodes_are_kept.ensures.two (below c) c.metadata.ensures.read_back c.starts_are_in_order.ensures.order c.requests_are_read.ensures

@@ -17,4 +17,4 @@ below c = record {
 }
 
 pub returns : goal.returns
-returns c = starts_are_of_images (below c) c.metadata.ensures.read_back c.requests_are_read.ensures
+returns c = starts_are_of_images c.opcodes_are_kept.ensures.one c.opcodes_are_kept.ensures.two (below c) c.metadata.ensures.read_back c.requests_are_read.ensures
