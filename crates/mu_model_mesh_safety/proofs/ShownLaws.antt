@@ -1,4 +1,5 @@
 -- The laws of members that the safety of what is shown rests on.
+use Rattle.mu_model_wire.specs.Opcodes.{TwoOctetsAreKept}
 use Rattle.mu_model_image.specs.Laws.{MetaIsReadBack, FirmwareIdsDiffer}
 use Rattle.mu_model_node.specs.Safe.{OneNodeIsSafe}
 use Rattle.mu_model_client_laws.specs.Laws.{PlansStay}
@@ -42,6 +43,7 @@ pub record MemberLaws : Type 0 where
   pub lists : ListsAgree
   pub order : RunsAreInOrder
   pub stand : OffersStand
+  pub two : TwoOctetsAreKept
   -- a node and another member
   pub row_reached : RowsAreReached
   pub list_true : NewListsAreTrue

@@ -208,7 +208,7 @@ module _ (laws : MemberLaws) (m : Mesh) (k : Kept m) where
     list_shown has =
         let run = run_of.run in
         let sound : IsDistState d.state = subst IsDistState (same_end run_of) (laws.order run.address run.durable run.fresh run.happenings run_of.is.durable run_of.is.fresh run_of.is.happenings).sound in
-        let stays : (dist_step x d.state event now).next.durable.counter ≡ d.state.durable.counter = lists_begin_nothing laws.stand x d.state event now sound p given has is in
+        let stays : (dist_step x d.state event now).next.durable.counter ≡ d.state.durable.counter = lists_begin_nothing laws.two laws.stand x d.state event now sound p given has is in
         let same : present_id laws m k x d at ≡ transfer_id x (dist_step x d.state event now).next.durable = same_transfer run_of ∙ ap (λ c. x * 2 ^ 48 + c) (sym stays) in
         let own : Contains (dist_step run.address d.state event now).sent p = subst (λ a. Contains (dist_step a d.state event now).sent p) (sym run_of.own) has in
         let here : Contains (dist_step run.address (end_of run) event now).sent p = subst (λ (s : DistState). Contains (dist_step run.address s event now).sent p) (sym (same_end run_of)) own in

@@ -50,6 +50,7 @@ pub fn every_world_is_safe()
     runs_are_in_order();
     mu_model_distributor_laws::laws::starts_are_offered();
     mu_model_distributor_laws::laws::rows_are_told();
+    mu_model_wire::laws::opcodes_are_kept();
     offers_agree();
     packets_say_starts();
     octets_say_fit();

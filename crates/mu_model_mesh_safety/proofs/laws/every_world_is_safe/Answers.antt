@@ -47,6 +47,7 @@ members_of c = record {
   lists = c.offers_agree.ensures.lists;
   order = c.runs_are_in_order.ensures.order;
   stand = c.rows_are_told-2.ensures.stand;
+  two = c.opcodes_are_kept.ensures.two;
   row_reached = c.lists_are_reached.ensures.rows;
   list_true = c.lists_are_reached.ensures.new;
   row_true = c.rows_are_reached.ensures.new;
