@@ -101,7 +101,7 @@ world_of_runs laws m r =
       nodes = λ a n e. node_of laws.runs m.nodes.bag a n r.packets (unicast a (r.apart.nodes a n e).0) (r.nodes a n e);
       updaters = λ a u e. (sends_from laws.plans m.nodes.bag a u (r.updaters a u e), (r.apart.updaters a u e).1);
       distributors = λ a d e. (unicast a (r.apart.distributors a d e).0, (r.apart.distributors a d e).1);
-      once = none_twice m.order r.apart.once;
+      once = r.apart.once;
       there = each _ m.order r.apart.some;
     }
 
