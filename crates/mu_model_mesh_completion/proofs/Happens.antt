@@ -3,6 +3,7 @@ use Rattle.std.proofs.Common.{◌≡◌, ◌≤◌, ◌+◌, ℕ, Bool, true, fa
 use Rattle.std.specs.Prelude.{◌==◌, ◌||◌, Contains, slice_get}
 use Rattle.std.specs.List.{AllByRecursion, flat_map}
 use Rattle.std.proofs.lemmas.Bool.{eqb-true}
+use Rattle.mu_model_wire.specs.Opcodes.{OneOctetIsKept}
 use Rattle.mu_model_wire.specs.Packet.{Packet}
 use Rattle.mu_model_wire.specs.Laws.{GrammarHolds, CanonicalIsRead}
 use Rattle.mu_model_node.specs.declared.NodeConfig.{NodeConfig}
@@ -40,6 +41,7 @@ use Rattle.mu_model_mesh_completion.proofs.Resting.{Rests, StepRests, dist_time_
 
 pub record Wire : Type 0 where
   pub grammar : GrammarHolds
+  pub kept : OneOctetIsKept
   pub canonical : CanonicalIsRead
   pub requests : RequestsAreRead
   pub no_answers : RequestsAreNoAnswers
@@ -114,7 +116,7 @@ node_timed address n t = part_timed (record { config = config_of address n; mome
 abbrev pub NoDistributors : (ℕ → Type 0) → Mesh → Type 0
 NoDistributors D m = (b : ℕ) → D b → distributor_at m b ≡ None
 
-module _ (D : ℕ → Type 0) where
+module _ (kept : OneOctetIsKept) (D : ℕ → Type 0) where
   node_time : (m : Mesh) (address : ℕ) (n : w.Member) (u : Option UpdaterMember) (d : Option DistributorMember) (out : MeshOutcome) → Stable m → node_at m address ≡ Some n
       → Contains (timed_by m address (moment_by (Some n) u d + 100) (Some n) u d) out → Does (IsStray D) m out.mesh address timed
   node_time m address n u d out s at h =
@@ -157,7 +159,7 @@ module _ (D : ℕ → Type 0) where
       let rest = s.at_rest address d at in
       let later : DistributorMember = dist_later (d.moment + 100) d in
       let step : DistStep = dist_step address later.state TimeComes later.moment in
-      let rests = dist_time_rests D address (λ own. none_some (sym (alone address own) ∙ at)) d.state later.moment rest.rests in
+      let rests = dist_time_rests kept D address (λ own. none_some (sym (alone address own) ∙ at)) d.state later.moment rest.rests in
       let same : dist_ran m address later [] step ≡ out = dist_only m address later TimeComes [] out rest.no_tear h in
       does_rest (IsStray D) m out.mesh address timed step.sent (nobody_else m address no_node no_updater) rests.strays
       (subst (λ (x : MeshOutcome). DistRan m x.mesh step.sent) same (dist_went m address d later [] step s at (record { rests = rests.next; no_tear = rest.no_tear })))

@@ -2,6 +2,7 @@
 use Rattle.std.proofs.Common.{◌≡◌, ℕ, Bool, true, false, List, [], ◌∷◌, map, refl, sym, ap, subst, ◌∙◌, cond, Option, Some, None}
 use Rattle.std.specs.Prelude.{◌==◌}
 use Rattle.std.specs.List.{AllByRecursion}
+use Rattle.mu_model_wire.specs.Opcodes.{OneOctetIsKept}
 use Rattle.mu_model_wire.specs.Packet.{Packet}
 use Rattle.mu_model_wire.specs.Laws.{CanonicalIsRead, GrammarHolds}
 use Rattle.mu_model_node.specs.declared.Link.{Link}
@@ -121,10 +122,10 @@ time_rests address s NoUpload h = waits_rests address s h
 time_rests address s (Broken job) h = waits_rests address s h
 time_rests address s Uploaded h = waits_rests address s h
 
-module _ (D : ℕ → Type 0) (address : ℕ) (no : D address → ⊥) where
+module _ (kept : OneOctetIsKept) (D : ℕ → Type 0) (address : ℕ) (no : D address → ⊥) where
   sent_strays : (sends : List (ℕ × Sent)) → SendsReports sends → AllByRecursion (IsStray D) (map (sent_packet address) sends)
   sent_strays [] h = tt
-  sent_strays (x ∷ sends) h = (record { sender = no; report = subst (λ (sent : Sent). IsReport (dist.sent_octets sent)) (sym h.0.1) (report_is h.0.0) }, sent_strays sends h.1)
+  sent_strays (x ∷ sends) h = (record { sender = no; report = subst (λ (sent : Sent). IsReport (dist.sent_octets sent)) (sym h.0.1) (report_is kept h.0.0) }, sent_strays sends h.1)
 
   pub record StepReports (step : DistStep) : Type 0 where
     pub next : Rests step.next

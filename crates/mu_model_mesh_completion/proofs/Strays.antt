@@ -3,18 +3,14 @@
 use Rattle.std.proofs.Common.{◌≡◌, ◌<◌, ℕ, ◌+◌, Bool, true, false, List, [], ◌∷◌, length, map, refl, sym, ap, subst, ◌∙◌, cond, arith, Option, Some, None, Result, Ok, Err, ◌⊎◌, inl, inr}
 use Rattle.std.specs.Prelude.{◌%◌, ◌==◌, nat_lt}
 use Rattle.std.specs.List.{AllByRecursion, flat_map}
-use Rattle.std.proofs.Math.Nat.{mod-eq_of_lt}
-use Rattle.std.proofs.Math.Dec.{ltb}
 use Rattle.std.proofs.lemmas.Bool.{le-ltb, eqb-true}
-use Rattle.byteorder.specs.Endian.{little_number}
-use Rattle.byteorder.specs.Numbers.{little_number-reads_back}
-use Rattle.mu_model_wire.specs.Fields.{Fields, Shown, Message}
+use Rattle.mu_model_wire.specs.Fields.{Message}
+use Rattle.mu_model_wire.specs.Opcodes.{OneOctetIsKept}
 use Rattle.mu_model_wire.specs.Packet.{Packet}
-use Rattle.mu_model_wire.specs.Reading.{◌>>=◌, Left, refuse, message_at, opcode_at, word_at, row_at, fields_at, fields_of}
+use Rattle.mu_model_wire.specs.Reading.{message_at}
 use Rattle.mu_model_wire.specs.Spelling.{spelling}
 use Rattle.mu_model_wire.specs.Table.{rows}
 use Rattle.mu_model_wire.specs.declared.Refusal.{Refusal}
-use Rattle.mu_model_wire.specs.declared.Why.TheVariants.{Long}
 use Rattle.mu_model_node.specs.BlobMessages.{PartialBlockReport, blob_message_of}
 use Rattle.mu_model_node.specs.NodeMessages.{request_of, request_in, request_at}
 use Rattle.mu_model_client.specs.declared.Sending.{Sending}
@@ -36,43 +32,11 @@ Keeps read = (m : Message) → read ≡ Ok m → m.opcode ≡ 0x68
 abbrev pub IsReport : List ℕ → Type 0
 IsReport payload = Keeps (message_at rows payload)
 
-abbrev opcode_in : Result Message Refusal → ℕ
-opcode_in (Ok m) = m.opcode
-opcode_in (Err e) = 0
+begun_with : OneOctetIsKept → (bytes body : List ℕ) → bytes ≡ 0x68 ∷ body → IsReport bytes
+begun_with kept bytes body e = rw e (kept rows 0x68 body (omega arith))
 
-by_fields : (r : Result (List Shown × List (List Shown)) Refusal) → Keeps (r >>= λ shown. Ok (record { opcode = 0x68; fields = shown.0; entries = shown.1 }))
-by_fields (Ok shown) m h = sym (ap opcode_in h)
-by_fields (Err e) m h = cc
-
-by_row : (found : Option Fields) (left : Left) → Keeps (row_at found 0x68 left)
-by_row None left m h = cc
-by_row (Some fs) left m h = by_fields (fields_at fs [] left) m h
-
-word_first : (a at : ℕ) (os : List ℕ) → a < 256 → word_at 1 (record { at = at; octets = a ∷ os }) ≡ Ok (a, record { at = at + 1; octets = os })
-unfolding word_at
-word_first a at os small =
-    let e : a % 256 ≡ a = mod-eq_of_lt small in
-    let again : little_number 1 (a % 256 ∷ os) ≡ a = little_number-reads_back 1 a os (omega arith) in
-    let n : little_number 1 (a ∷ os) ≡ a = subst (λ x. little_number 1 (x ∷ os) ≡ a) e again in
-    let long : ltb (length (a ∷ os)) 1 ≡ false = le-ltb (length (a ∷ os)) 1 (omega arith) in
-    rw (long, n) refl
-
-first_opcode : (body : List ℕ) → opcode_at (record { at = 0; octets = 0x68 ∷ body }) ≡ Ok (0x68, record { at = 1; octets = body })
-unfolding opcode_at
-first_opcode body = rw (word_first 0x68 0 body (omega arith)) refl
-
-kept : (body : List ℕ) → IsReport (0x68 ∷ body)
-kept body = by_length (nat_lt 380 (length (0x68 ∷ body)))
-  where
-    by_length : (b : Bool) → Keeps (cond b (refuse 380 Long) (opcode_at (record { at = 0; octets = 0x68 ∷ body }) >>= λ opcode. row_at (fields_of rows opcode.0) opcode.0 opcode.1))
-    by_length true = λ m h. cc
-    by_length false = rw (first_opcode body) (by_row (fields_of rows 0x68) (record { at = 1; octets = body }))
-
-begun_with : (bytes body : List ℕ) → bytes ≡ 0x68 ∷ body → IsReport bytes
-begun_with bytes body e = rw e (kept body)
-
-pub report_is : (chunks : List ℕ) → IsReport (spelling rows (blob_message_of (PartialBlockReport chunks)))
-report_is chunks = begun_with (spelling rows (blob_message_of (PartialBlockReport chunks))) _ refl
+pub report_is : OneOctetIsKept → (chunks : List ℕ) → IsReport (spelling rows (blob_message_of (PartialBlockReport chunks)))
+report_is kept chunks = begun_with kept (spelling rows (blob_message_of (PartialBlockReport chunks))) _ refl
 
 -- ---- a node and a distributor are asked nothing
 

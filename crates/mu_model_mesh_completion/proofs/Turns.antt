@@ -74,7 +74,7 @@ module _ (laws : AllLaws) (wire : Wire) (D : ℕ → Type 0) (aim : AimLaws) whe
 
   pub time_goes : (m mid : Mesh) (text : List ℕ) (ms : List Member) → Here D m ms → EachComes turn_comes m.order m text mid → Goes (IsStray D) m mid m.order timed
   time_goes m mid text ms h e =
-      each_goes (IsStray D) timed turn_comes MemberFits (NoDistributors D) (λ x a out s q fit k. time_does D x a out s q fit k) (λ x y a d q b h. d.none_comes b (q b h)) (λ a. true) m.order m text mid h.stable h.no_distributor h.once
+      each_goes (IsStray D) timed turn_comes MemberFits (NoDistributors D) (λ x a out s q fit k. time_does wire.kept D x a out s q fit k) (λ x y a d q b h. d.none_comes b (q b h)) (λ a. true) m.order m text mid h.stable h.no_distributor h.once
       (all_parts MemberFits (member_of m) m.order (subst (λ xs. AllByRecursion MemberFits xs) (sym h.is) h.fits))
       (subst (λ bs. EachComes turn_comes bs m text mid) (sym (filter_all m.order)) e)
 

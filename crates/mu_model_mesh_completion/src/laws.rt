@@ -15,7 +15,7 @@ use mu_model_mesh_runs::laws::settles_end;
 use mu_model_mesh_safety::laws::every_world_is_of_runs;
 use mu_model_node::laws::{flash_work, states_are_sound, told_phase};
 use mu_model_script::script_event_is_in_range;
-use mu_model_wire::laws::{canonical_is_read, grammar_holds};
+use mu_model_wire::laws::{canonical_is_read, grammar_holds, opcodes_are_kept};
 
 /// Where nothing is lost, a `settle` of so many turns completes the update of an updater that has had no event: in push seven turns
 /// for each sixteen receivers, and for each block two for each sixteen receivers and one for each sixteen chunks; in pull with one
@@ -46,6 +46,7 @@ pub fn settle_completes()
     told_phase();
     moments_are_the_greatest();
     grammar_holds();
+    opcodes_are_kept();
     canonical_is_read();
     settles_end();
 }

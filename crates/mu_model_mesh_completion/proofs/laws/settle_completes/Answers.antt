@@ -26,6 +26,7 @@ returns c =
     } in
     let wire : Wire = record {
       grammar = c.grammar_holds.ensures;
+      kept = c.opcodes_are_kept.ensures.one;
       canonical = c.canonical_is_read.ensures;
       requests = c.requests_are_read.ensures;
       no_answers = c.requests_are_no_answers.ensures.answers;
