@@ -21,6 +21,7 @@ use Rattle.mu_kept.specs.Shows.{Shows, IsChanged}
 use Rattle.mu_blobsrv.specs.declared.server.BlobServer.{BlobServer}
 use Rattle.mu_blobsrv.specs.Replies.{packets_of}
 use Rattle.mu_blobsrv.specs.Views.{store_of}
+use Rattle.mu_blobsrv.specs.Changes.{IsChangedTo}
 use Rattle.mu_blobsrv.specs.Rows.{IsRow, IsServed, quietly}
 use Rattle.mu_blobsrv.specs.Runs.{change_steps, FaultBy, Stays}
 
@@ -33,9 +34,12 @@ pub is_same : {F : Type 0} {g : _} (old new : JobStore F g) (held : Slots) → n
 is_same old new held e shows =
     subst (λ (x : JobStore _ _). IsChanged old x Same held) (sym e) (record { shows = shows; serving = sym (same_after (serving_with (serving_in old) held)); capacity = refl })
 
+same_to : {F : Type 0} {g : _} (old new : JobStore F g) → new ≡ old → IsChangedTo old new Same
+same_to old new e = subst (λ (x : JobStore _ _). IsChangedTo old x Same) (sym e) (record { fields = refl; fresh = refl; filling = refl; job = refl; flags = refl })
+
 pub quiet_row : {F : Type 0} {g : _} (old : JobStore F g) (new : BlobServer F g) (held : Slots) (o : Served) (replies : List (ℕ × BlobReply)) → store_of new ≡ old → Shows old held → o ≡ quietly new replies → IsRow old held o new replies
 quiet_row old new held o replies e shows row =
-    subst (λ (x : Served). IsRow old held x new replies) (sym row) (record { session = refl; changed = is_same old (store_of new) held e shows; replies_are = refl })
+    subst (λ (x : Served). IsRow old held x new replies) (sym row) (record { session = refl; changed = is_same old (store_of new) held e shows; stands = same_to old (store_of new) e; replies_are = refl })
 
 pub quiet_answers : {F T : Type 0} {g : _} (old new : JobStore F g) (r : T) → new ≡ old → place_fault (place_in old) ≡ None → Answers (place_in new) (Ok r)
 quiet_answers old new r e none = subst (λ (x : JobStore _ _). place_fault (place_in x) ≡ None) (sym e) none
@@ -67,7 +71,7 @@ quiet_stays old new e = subst (λ (x : JobStore _ _). Stays old x) (sym e) (reco
 pub is_served : {F : Type 0} {g : _} (from : ℕ) (old : JobStore F g) (held : Slots) (o : Served) (new : BlobServer F g) (replies : List (ℕ × BlobReply)) (packets : List Packet) → IsRow old held o new replies
     → packets ≡ packets_of from replies → IsServed from old held o new packets
 is_served from old held o new replies packets row e =
-    record { session = row.session; changed = row.changed; packets_are = e ∙ ap (packets_of from) row.replies_are }
+    record { session = row.session; changed = row.changed; stands = row.stands; packets_are = e ∙ ap (packets_of from) row.replies_are }
 
 -- the fault, whatever is answered beside it
 pub faults_ok : {F T U : Type 0} {g : _} (change : Change) (old : Place F g) (a : T) (b : U) → FaultBy change old (Ok a) → FaultBy change old (Ok b)

@@ -15,12 +15,13 @@ use Rattle.mu_kept.specs.declared.store.JobStore.{JobStore}
 use Rattle.mu_kept.specs.Shows.{IsChanged}
 use Rattle.mu_blobsrv.specs.declared.server.BlobServer.{BlobServer}
 use Rattle.mu_blobsrv.specs.Views.{store_of, session_of}
+use Rattle.mu_blobsrv.specs.Changes.{IsChangedTo}
 use Rattle.mu_blobsrv.specs.Rows.{IsRow}
 
 pub told_row : {F : Type 0} {g : _} (old : JobStore F g) (new : BlobServer F g) (held : Slots) (o : Served) (change : Change) (replies : List (ℕ × BlobReply)) → IsChanged old (store_of new) change held
-    → o ≡ record { session = session_of new; change = change; replies = replies } → IsRow old held o new replies
-told_row old new held o change replies changed row =
-    subst (λ (x : Served). IsRow old held x new replies) (sym row) (record { session = refl; changed = changed; replies_are = refl })
+    → IsChangedTo old (store_of new) change → o ≡ record { session = session_of new; change = change; replies = replies } → IsRow old held o new replies
+told_row old new held o change replies changed stands row =
+    subst (λ (x : Served). IsRow old held x new replies) (sym row) (record { session = refl; changed = changed; stands = stands; replies_are = refl })
 
 -- ---- a start drops nothing
 

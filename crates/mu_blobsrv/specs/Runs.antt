@@ -12,19 +12,18 @@ use Rattle.mu_place.specs.declared.place.Place.{Place}
 use Rattle.mu_place.specs.Place.{place_fresh}
 use Rattle.mu_place.specs.Calls.{WornAtLast}
 use Rattle.mu_kept.specs.declared.store.JobStore.{JobStore}
-use Rattle.mu_kept.specs.Views.{place_in, job_in, bank_in, with_parameters, expect_of}
+use Rattle.mu_kept.specs.Views.{place_in, job_in, bank_in, expect_of}
 use Rattle.mu_kept.specs.Calls.{note_in}
-use Rattle.mu_kept.specs.Tags.{tag_with}
 use Rattle.mu_blobsrv.specs.declared.server.BlobServer.{BlobServer}
+use Rattle.mu_blobsrv.specs.Changes.{tag_after}
 use Rattle.mu_blobsrv.specs.Views.{fault_of}
 
 -- The states of the store after each operation of a row's change: a bank that is begun or given up in a record, or a block that is put.
 abbrev pub change_steps : {F : Type 0} {g : _} → JobStore F g → StoreState → Change → List StoreState
 change_steps store s Same = []
 change_steps store s (Begins p) =
-    s ∷ record_steps (place_fresh (place_in store)) s (begun s (bank_in store) p.size p.log (tag_with (option_map (with_parameters (Some p)) (job_in store)) (note_in store)))
-change_steps store s Drops =
-    record_steps (place_fresh (place_in store)) s (emptied s (bank_in store) (tag_with (option_map (with_parameters None) (job_in store)) (note_in store)))
+    s ∷ record_steps (place_fresh (place_in store)) s (begun s (bank_in store) p.size p.log (tag_after store (Begins p)))
+change_steps store s Drops = record_steps (place_fresh (place_in store)) s (emptied s (bank_in store) (tag_after store Drops))
 change_steps store s (Puts i octets) = block_steps (piece_count (length octets) 4096) s (with_block s (bank_in store) i octets)
 
 -- How many pages the block has that is put; and it is one of 16,384 octets at most (this profile).

@@ -14,5 +14,6 @@ returns-clause-row g c = λ held p shows.
     let row = c.link_told-answer.ensures.row (server_of c.args.self.now held c.args.now) (held_after Drops held) p refl refl
     (sym (c.blocks_missing-missing.ensures.shows (held_after Drops held) changed.shows)) (rw (c.kept-kept.ensures.looks, c.requires.drops) changed.serving) in
     told_row (store_of c.args.self.now) _ held _ Drops _ changed
+    (record { fields = c.in_ok-drop_transfer.ensures.fields; fresh = c.in_ok-drop_transfer.ensures.fresh; filling = c.in_ok-drop_transfer.ensures.filling; job = c.in_ok-drop_transfer.ensures.job; flags = c.in_ok-drop_transfer.ensures.flags })
     (changed_row (told_by (server_of c.args.self.now held c.args.now) c.args.from p c.args.told) (session_in c.link_told-answer.new.session) p c.args.told.change Drop
     ((c.args.from, c.link_told-answer.result) ∷ []) row c.requires.drops)
