@@ -95,9 +95,10 @@ impl BlobClient {
         on_time(&mut self.rounds, image, now, out)
     }
 
-    /// How many receivers there are, at most 128.
+    /// How many receivers there are.
     pub fn count(&self) -> u8
-        ensures { result ≡ length self.now.receivers }
+        ensures count { result ≡ length self.now.receivers }
+        ensures most { result ≤ 128 }
     {
         self.rounds.slots.len() as u8
     }

@@ -8,6 +8,6 @@ mod sending;
 mod writing;
 
 pub use client::{on_blob, on_time, on_update};
-pub use reading::{blob_heard, update_heard};
+pub use reading::{blob_heard, takes_blob, takes_update, update_heard};
 pub use sending::send_all;
 pub use writing::octets_of;

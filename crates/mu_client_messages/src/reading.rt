@@ -1,5 +1,5 @@
 // What a client takes of a message that it receives.
-ghost use Rattle.std.specs.Prelude.{◌≡◌, drop, map, IfSome};
+ghost use Rattle.std.specs.Prelude.{◌≡◌, drop, map, is_some, IfSome};
 ghost use Rattle.mu_model_wire.specs.Spelling.{Fits};
 ghost use Rattle.mu_model_wire.specs.Blob.{blob_rows};
 ghost use Rattle.mu_model_wire.specs.Update.{update_rows};
@@ -192,4 +192,20 @@ pub fn update_heard<'a>(message: &'a UpdMsg<'a>) -> Option<Heard<'a>>
         })),
         _ => None,
     }
+}
+
+/// Whether a client takes such a BLOB Transfer message.
+pub fn takes_blob(message: &BlobMsg) -> bool
+    requires { Fits blob_rows (blob_view message.now) }
+    ensures { result ≡ is_some (takes (blob_view message.now)) }
+{
+    blob_heard(message).is_some()
+}
+
+/// Whether a client takes such a Firmware Update message.
+pub fn takes_update(message: &UpdMsg) -> bool
+    requires { Fits update_rows (update_view message.now) }
+    ensures { result ≡ is_some (takes (update_view message.now)) }
+{
+    update_heard(message).is_some()
 }

@@ -8,8 +8,8 @@ ghost use Rattle.mu_blobmsg.specs.View.{view as blob_view};
 ghost use Rattle.mu_updmsg.specs.View.{view as update_view};
 ghost use Rattle.mu_model_flash.specs.Cause.{HasCause};
 ghost use Rattle.mu_model_client.specs.Answers.{answer_of};
-ghost use Rattle.mu_model_client.specs.Begin.{start, resume, take_apply, take_cancel, cause_of, stage_of, stage_at, stage_in};
-ghost use Rattle.mu_model_client.specs.Client.{Receiver};
+ghost use Rattle.mu_model_client.specs.Begin.{start, resume, take_apply, take_cancel, cause_of, stage_of, stage_at, stage_in, is_ended};
+ghost use Rattle.mu_model_client.specs.Client.{Receiver, at_moment, rows};
 ghost use Rattle.mu_model_client.specs.Due.{due};
 ghost use Rattle.mu_model_client.specs.Going.{going};
 ghost use Rattle.mu_model_client.specs.Packets.{answer_handled, request_packet};
@@ -19,7 +19,8 @@ ghost use Rattle.mu_rounds.specs.Time.{HasSize};
 ghost use Rattle.mu_client_messages.specs.Messages.{HasMode};
 ghost use Rattle.mu_updcli.specs.Client.{row_shown};
 
-use crate::rows::{cause_of, first_place, row_of, slots_again, slots_of};
+use crate::rows::{cause_of, first_place, row_of, rows_of, slots_again, slots_of};
+use arrayvec::ArrayVec;
 use mu_blobmsg::BlobMsg;
 use mu_client_messages::{on_blob, on_time, on_update};
 use mu_codec::Outbox;
@@ -125,6 +126,13 @@ impl UpdateClient {
         on_blob(&mut self.rounds, from, msg, now);
     }
 
+    /// A packet that brings no such message hands in its moment alone, in milliseconds.
+    pub fn pass_to(&mut self, now: u64)
+        ensures { self.new ≡ at_moment self.old now }
+    {
+        self.rounds.pass_to(now);
+    }
+
     /// A time event at this moment, in milliseconds: at most 16 packets are sent, into an outbox that is empty. Where a read of
     /// the image fails the client is as before, and nothing is sent. The image has the size of what is sent.
     pub fn on_time<I: ImageBytes>(
@@ -148,11 +156,19 @@ impl UpdateClient {
         on_time(&mut self.rounds, image, now, out)
     }
 
-    /// How many receivers there are, at most 128.
+    /// How many receivers there are.
     pub fn count(&self) -> u8
-        ensures { result ≡ length self.now.receivers }
+        ensures count { result ≡ length self.now.receivers }
+        ensures most { result ≤ 128 }
     {
         self.rounds.slots.len() as u8
+    }
+
+    /// The rows of all receivers, in their order.
+    pub fn rows(&self) -> ArrayVec<ReceiverRow, 128>
+        ensures { map row_shown result.items ≡ rows self.now }
+    {
+        rows_of(&self.rounds.slots)
     }
 
     /// The row of receiver `i`.
@@ -177,6 +193,16 @@ impl UpdateClient {
         ensures { result ≡ stage_of self.now }
     {
         stage_at(self.rounds.place)
+    }
+
+    /// Whether the client has ended.
+    pub fn ended(&self) -> bool
+        ensures { result ≡ is_ended self.now.place }
+    {
+        match self.rounds.place {
+            Place::Ended(_) => true,
+            _ => false,
+        }
     }
 
     /// Applying begins in the next time event. The client is Verified.

@@ -1,6 +1,7 @@
 // The rows of an update client.
 ghost use Rattle.std.specs.Prelude.{◌≡◌, ◌≤◌, map, length};
 ghost use Rattle.mu_model_client.specs.Begin.{new_active, resumed, goes_on_with, may_transfer, cause_of, first_place};
+ghost use Rattle.mu_model_client.specs.Client.{row_of as row_seen};
 ghost use Rattle.mu_receivers.specs.Receivers.{receiver_of, receivers_of};
 ghost use Rattle.mu_receivers.specs.Receivers.{row_of as row_in};
 ghost use Rattle.mu_receivers.specs.Slots.{IsFew, AreFew};
@@ -127,4 +128,16 @@ pub(crate) fn row_of(slot: &Slot) -> ReceiverRow
         progress: slot.progress,
         image_index: slot.index,
     }
+}
+
+/// The rows of all receivers.
+pub(crate) fn rows_of(slots: &[Slot]) -> ArrayVec<ReceiverRow, 128>
+    requires { length slots.now ≤ 128 }
+    ensures { map row_shown result.items ≡ map row_seen (receivers_of slots.now) }
+{
+    let mut rows = ArrayVec::new();
+    for slot in slots {
+        rows.push(row_of(slot));
+    }
+    rows
 }
