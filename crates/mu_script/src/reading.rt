@@ -172,23 +172,6 @@ fn phase(mut tokens: Tokens) -> Result<Option<Event>, LineFault>
     Ok(Some(Event::Phase { addr }))
 }
 
-fn event_by_word(word: Word, tokens: Tokens) -> Result<Option<Event>, LineFault>
-    ensures { GivesEvent result (event_by (row word) tokens.entry) }
-{
-    match word {
-        Word::Node => node(tokens),
-        Word::Pair => pair(tokens),
-        Word::Old => old(tokens),
-        Word::Say => say(tokens),
-        Word::Deliver => deliver(tokens),
-        Word::Time => time(tokens),
-        Word::Cut => cut(tokens),
-        Word::Tear => tear(tokens),
-        Word::Active => active(tokens),
-        Word::Phase => phase(tokens),
-    }
-}
-
 fn event_read(line: &[u8]) -> Result<Option<Event>, LineFault>
     ensures { Gives (λ e. option_map event e) result (line_event line.now) }
 {
@@ -203,10 +186,19 @@ fn event_read(line: &[u8]) -> Result<Option<Event>, LineFault>
     }
     let mut tokens = Tokens::new(line);
     let first = tokens.next()?;
-    let Some(word) = known_word(first.octets) else {
-        return Err(first.fault());
-    };
-    event_by_word(word, tokens)
+    match known_word(first.octets) {
+        None => Err(first.fault()),
+        Some(Word::Node) => node(tokens),
+        Some(Word::Pair) => pair(tokens),
+        Some(Word::Old) => old(tokens),
+        Some(Word::Say) => say(tokens),
+        Some(Word::Deliver) => deliver(tokens),
+        Some(Word::Time) => time(tokens),
+        Some(Word::Cut) => cut(tokens),
+        Some(Word::Tear) => tear(tokens),
+        Some(Word::Active) => active(tokens),
+        Some(Word::Phase) => phase(tokens),
+    }
 }
 
 /// What a line of a script makes happen, without its LF: nothing where it is empty or a comment. Refused are, at the

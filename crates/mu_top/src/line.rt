@@ -62,7 +62,8 @@ pub(crate) fn do_line(world: &mut World, line: &[u8], lines: &mut Lines) -> Resu
     ensures few { OnOk result (world.new.world.events ≤ world.old.world.events + 1) }
     ensures err { IfErr result (Stops world.old.world line.now) }
 {
-    let event = match read_line(line) {
+    let read = read_line(line);
+    let event = match &read {
         Ok(Some(event)) => event,
         Ok(None) => return Ok(()),
         Err(fault) => {
@@ -72,7 +73,7 @@ pub(crate) fn do_line(world: &mut World, line: &[u8], lines: &mut Lines) -> Resu
             });
         }
     };
-    match world.line(&event, lines) {
+    match world.line(event, lines) {
         Ok(()) => Ok(()),
         Err(WorldFault::Memory) => Err(LineStop::Memory),
         Err(WorldFault::Worn { .. }) => Err(LineStop::Worn),
