@@ -1,6 +1,8 @@
 -- The operations of a store are the flash work of a node, state by state.
 use Rattle.std.specs.Prelude.{◌≡◌, ℕ, false, List, ◌∷◌, Contains}
 use Rattle.std.specs.List.{AllByRecursion, AllZip}
+use Rattle.mu_model_record.specs.declared.Record.{Record}
+use Rattle.mu_model_record.specs.Record.{IsShort}
 use Rattle.mu_model_record.specs.Store.{StoreState}
 use Rattle.mu_model_record.specs.Next.{record_steps, block_steps}
 use Rattle.mu_model_record.specs.Next.{fresh_after as slots_after}
@@ -14,6 +16,10 @@ use Rattle.mu_model_represents.specs.RepresentsNode.{IsNode}
 -- both notions of what is fresh agree after a record of a node, which is short
 abbrev pub NodeFreshIsTheSame : Type 0
 NodeFreshIsTheSame = (fresh : ℕ) (e : StoreState) (n : NodeDurable) → IsStoreState e → IsNode e n → slots_after fresh e.present ≡ fresh_after false fresh
+
+-- so they do after any short record
+abbrev pub ShortFreshIsTheSame : Type 0
+ShortFreshIsTheSame = (fresh : ℕ) (r : Record) → IsShort r → slots_after fresh r ≡ fresh_after false fresh
 
 -- a record
 abbrev pub NodeRecordSteps : Type 0

@@ -1,7 +1,7 @@
 //! Laws of the definitions: functions that do nothing, whose contracts are proved.
 
 ghost use Rattle.mu_model_stored_node.specs.NodeIn.{NoteIsRead, NodeIsRead};
-ghost use Rattle.mu_model_stored_node.specs.Steps.{NodeFreshIsTheSame, NodeRecordSteps, NodeBeginSteps, NodeBlockSteps, WorkIsOfThePassed};
+ghost use Rattle.mu_model_stored_node.specs.Steps.{NodeFreshIsTheSame, ShortFreshIsTheSame, NodeRecordSteps, NodeBeginSteps, NodeBlockSteps, WorkIsOfThePassed};
 ghost use Rattle.mu_model_stored_node.specs.Kept.{NodeIsKept, ImagesStay, JobIsAsked, JobBegins, JobDrops, JobIsRefused, JobGoes, JobComes, NoJobIsLeft, FirstJobComes, JobIsVerified, JobIsActivated};
 
 use mu_model_jobs::laws::{banks_change, parts};
@@ -19,6 +19,7 @@ pub fn node_is_read()
 /// slots fresh.
 pub fn node_steps()
     ensures fresh { NodeFreshIsTheSame }
+    ensures short { ShortFreshIsTheSame }
     ensures one_record { NodeRecordSteps }
     ensures begin { NodeBeginSteps }
     ensures block { NodeBlockSteps }

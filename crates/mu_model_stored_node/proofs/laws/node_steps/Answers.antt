@@ -4,6 +4,9 @@ use Rattle.mu_model_stored_node.proofs.laws.node_steps.Goals as goal
 pub returns-clause-fresh : goal.returns-clause-fresh
 returns-clause-fresh c fresh e n state is = same_fresh fresh e.present (c.records_are_short.ensures.node e n state is)
 
+pub returns-clause-short : goal.returns-clause-short
+returns-clause-short c fresh r short = same_fresh fresh r short
+
 pub returns-clause-one_record : goal.returns-clause-one_record
 returns-clause-one_record c fresh s e d n state before after = record_zip s e d n before after fresh (c.records_are_short.ensures.node e n state after)
 
