@@ -2,6 +2,7 @@
 use Rattle.std.specs.Prelude.{◌≡◌, ℕ, ◌==◌, nat_lt, List, [], ◌∷◌, ◌++◌, length, codes, Option, Some, None, if◌then◌else◌}
 use Rattle.std.specs.Fmt.{decimal}
 use Rattle.hex.specs.Hex.{encode_lower}
+use Rattle.mu_model_image.specs.Sizes.{most_image}
 use Rattle.mu_model_image.specs.Meta.{meta_octets, firmware_id, own_company, image_of}
 use Rattle.mu_model_image.specs.declared.Meta.{Meta}
 use Rattle.mu_model_script.specs.Texts.{text_line, refused_text}
@@ -11,10 +12,6 @@ use Rattle.mu_top.specs.declared.image.ImageRead.{ImageRead}
 use Rattle.mu_top.specs.declared.image.ImageRead.TheVariants.{Whole, Empty, TooLarge}
 use Rattle.mu_top.specs.declared.status.Status.{Status}
 use Rattle.mu_top.specs.declared.status.Status.TheVariants.{Done, SourceFault, SinkFault, Refused}
-
--- octets of an image at most
-abbrev pub most_image : ℕ
-most_image = 1048576
 
 -- size S version V digest D, metadata HEX and id HEX, on three lines
 abbrev pub parts_text : (size version digest metadata id : List ℕ) → List ℕ
