@@ -1,5 +1,5 @@
-use mu_world::Lines;
 use mu_codec::{Packet, Payload};
+use mu_world::Lines;
 use std::test::Fail;
 
 #[test]

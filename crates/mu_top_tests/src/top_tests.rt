@@ -1,5 +1,5 @@
-use mu_top::{WordList, top};
 use mu_outside::{BytesSink, BytesSource, RamFlash, RamLink, SetClock, Source};
+use mu_top::{WordList, top};
 use std::alloc::Global;
 use std::process::Abort;
 use std::test::Fail;
