@@ -17,7 +17,7 @@ each_upload = record { uploading = refl; receiving = refl; whole = refl; broken 
 
 pub distributions : Distributions
 unfolding word_at octets_at opcode_at pattern_at sha256 digest_bytes hash_after compress rounds schedule first_words
-distributions = record { one_fails = refl; both_fail = refl; verify_only = refl; both_silent = refl; says_failed_later = refl; canceled = refl; suspended_in_between = refl; cut_in_transfer = refl; cut_in_applying = refl; cut_in_canceling = refl; applying_already = refl }
+distributions = record { one_fails = refl; both_fail = refl; transfers_refused = refl; verify_only = refl; both_silent = refl; says_failed_later = refl; canceled = refl; suspended_in_between = refl; cut_in_transfer = refl; cut_in_applying = refl; cut_in_canceling = refl; applying_already = refl }
 
 pub uploads : Uploads
 unfolding word_at octets_at opcode_at pattern_at sha256 digest_bytes hash_after compress rounds schedule first_words

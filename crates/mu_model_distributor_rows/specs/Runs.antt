@@ -1,11 +1,12 @@
 -- The runs, each evaluated.
 use Rattle.mu_model_distributor_rows.specs.Scenes.{Goes, ready, of_three}
-use Rattle.mu_model_distributor_rows.specs.RunsOfDistributions.{one_fails, both_fail, verify_only, both_silent, says_failed_later, canceled, suspended_in_between, cut_in_transfer, cut_in_applying, cut_in_canceling, applying_already}
+use Rattle.mu_model_distributor_rows.specs.RunsOfDistributions.{one_fails, both_fail, transfers_refused, verify_only, both_silent, says_failed_later, canceled, suspended_in_between, cut_in_transfer, cut_in_applying, cut_in_canceling, applying_already}
 use Rattle.mu_model_distributor_rows.specs.RunsOfUploads.{uploaded, unfit, broken_by_time, broken_by_cut, lagging, canceled_transfer, deleted, unstarted, moment_of_another, moment_of_unread}
 
 pub record Distributions : Type 0 where
   pub one_fails : Goes ready one_fails
   pub both_fail : Goes ready both_fail
+  pub transfers_refused : Goes ready transfers_refused
   pub verify_only : Goes ready verify_only
   pub both_silent : Goes ready both_silent
   pub says_failed_later : Goes ready says_failed_later

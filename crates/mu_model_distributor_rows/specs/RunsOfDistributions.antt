@@ -1,6 +1,6 @@
 -- Distributions to two receivers.
 use Rattle.std.specs.Prelude.{List, [], ◌∷◌}
-use Rattle.mu_model_distributor_rows.specs.Scenes.{no_job_status, receivers_get, distribution_get, distribution_start, distribution_suspend, distribution_cancel, distribution_apply, block_start, chunk, block_get, blob_information_get, update_status, metadata_status, no_distribution, distribution_status, Turn, quiet, asks, boots, passes, sends, metadata_check, transfer_of, update_get, update_apply, update_cancel, information_get, metadata_refused, limits, transfer_told, block_status, shown_image, comes, update_start}
+use Rattle.mu_model_distributor_rows.specs.Scenes.{no_job_status, receivers_get, distribution_get, distribution_start, distribution_suspend, distribution_cancel, distribution_apply, block_start, chunk, block_get, blob_information_get, update_status, metadata_status, no_distribution, distribution_status, Turn, quiet, asks, boots, passes, sends, metadata_check, transfer_of, update_get, update_apply, update_cancel, information_get, metadata_refused, limits, transfer_told, transfer_refused, block_status, shown_image, comes, update_start}
 
 -- one receiver verifies the image and applies it, the other fails to verify it
 abbrev pub one_fails : List Turn
@@ -54,6 +54,28 @@ both_fail =
     ∷ quiet (comes 2 metadata_status) (8 ∷ 1 ∷ 0 ∷ []) ((10 ∷ 0 ∷ 0 ∷ 0 ∷ []) ∷ (10 ∷ 0 ∷ 0 ∷ 0 ∷ []) ∷ [])
     ∷ quiet (comes 3 metadata_status) (8 ∷ 1 ∷ 0 ∷ []) ((10 ∷ 0 ∷ 0 ∷ 0 ∷ []) ∷ (10 ∷ 0 ∷ 0 ∷ 0 ∷ []) ∷ [])
     ∷ sends (passes 0) ((2, update_start 2) ∷ (3, update_start 2) ∷ []) (8 ∷ 1 ∷ 0 ∷ []) ((10 ∷ 0 ∷ 0 ∷ 0 ∷ []) ∷ (10 ∷ 0 ∷ 0 ∷ 0 ∷ []) ∷ [])
+    ∷ []
+
+-- both refuse the transfer: their transfer statuses stand until the next one begins
+abbrev pub transfers_refused : List Turn
+transfers_refused =
+    asks (distribution_start 0 5 0 5 0 0xc0) (distribution_status 0 1) (4 ∷ 1 ∷ 0 ∷ []) ((10 ∷ 0 ∷ 0 ∷ 0 ∷ []) ∷ (10 ∷ 0 ∷ 0 ∷ 0 ∷ []) ∷ [])
+    ∷ sends (passes 0) ((2, metadata_check) ∷ (3, metadata_check) ∷ []) (4 ∷ 1 ∷ 0 ∷ []) ((10 ∷ 0 ∷ 0 ∷ 0 ∷ []) ∷ (10 ∷ 0 ∷ 0 ∷ 0 ∷ []) ∷ [])
+    ∷ quiet (comes 2 metadata_status) (4 ∷ 1 ∷ 0 ∷ []) ((10 ∷ 0 ∷ 0 ∷ 0 ∷ []) ∷ (10 ∷ 0 ∷ 0 ∷ 0 ∷ []) ∷ [])
+    ∷ quiet (comes 3 metadata_status) (4 ∷ 1 ∷ 0 ∷ []) ((10 ∷ 0 ∷ 0 ∷ 0 ∷ []) ∷ (10 ∷ 0 ∷ 0 ∷ 0 ∷ []) ∷ [])
+    ∷ sends (passes 0) ((2, update_start 1) ∷ (3, update_start 1) ∷ []) (4 ∷ 1 ∷ 0 ∷ []) ((10 ∷ 0 ∷ 0 ∷ 0 ∷ []) ∷ (10 ∷ 0 ∷ 0 ∷ 0 ∷ []) ∷ [])
+    ∷ quiet (comes 2 (update_status 0x40 1)) (5 ∷ 1 ∷ 0 ∷ []) ((2 ∷ 0 ∷ 0 ∷ 0 ∷ []) ∷ (10 ∷ 0 ∷ 0 ∷ 0 ∷ []) ∷ [])
+    ∷ quiet (comes 3 (update_status 0x40 1)) (6 ∷ 1 ∷ 0 ∷ []) ((2 ∷ 0 ∷ 0 ∷ 0 ∷ []) ∷ (2 ∷ 0 ∷ 0 ∷ 0 ∷ []) ∷ [])
+    ∷ sends (passes 0) ((2, blob_information_get) ∷ (3, blob_information_get) ∷ []) (6 ∷ 1 ∷ 0 ∷ []) ((2 ∷ 0 ∷ 0 ∷ 0 ∷ []) ∷ (2 ∷ 0 ∷ 0 ∷ 0 ∷ []) ∷ [])
+    ∷ quiet (comes 2 limits) (6 ∷ 1 ∷ 0 ∷ []) ((2 ∷ 0 ∷ 0 ∷ 0 ∷ []) ∷ (2 ∷ 0 ∷ 0 ∷ 0 ∷ []) ∷ [])
+    ∷ quiet (comes 3 limits) (6 ∷ 1 ∷ 0 ∷ []) ((2 ∷ 0 ∷ 0 ∷ 0 ∷ []) ∷ (2 ∷ 0 ∷ 0 ∷ 0 ∷ []) ∷ [])
+    ∷ sends (passes 0) ((2, transfer_of 1) ∷ (3, transfer_of 1) ∷ []) (6 ∷ 1 ∷ 0 ∷ []) ((2 ∷ 0 ∷ 0 ∷ 0 ∷ []) ∷ (2 ∷ 0 ∷ 0 ∷ 0 ∷ []) ∷ [])
+    ∷ quiet (comes 2 (transfer_refused 5)) (7 ∷ 1 ∷ 0 ∷ []) ((2 ∷ 0 ∷ 5 ∷ 0 ∷ []) ∷ (2 ∷ 0 ∷ 0 ∷ 0 ∷ []) ∷ [])
+    ∷ quiet (comes 3 (transfer_refused 7)) (8 ∷ 1 ∷ 0 ∷ []) ((2 ∷ 0 ∷ 5 ∷ 0 ∷ []) ∷ (2 ∷ 0 ∷ 7 ∷ 0 ∷ []) ∷ [])
+    ∷ quiet (passes 0) (9 ∷ 5 ∷ 0 ∷ []) ((2 ∷ 0 ∷ 5 ∷ 0 ∷ []) ∷ (2 ∷ 0 ∷ 7 ∷ 0 ∷ []) ∷ [])
+    ∷ asks (receivers_get 0 9) (0x83 ∷ 0x15 ∷ 2 ∷ 0 ∷ 0 ∷ 0 ∷ 2 ∷ 0 ∷ 0x41 ∷ 1 ∷ 0 ∷ 3 ∷ 0 ∷ 0xc1 ∷ 1 ∷ 0 ∷ []) (9 ∷ 5 ∷ 0 ∷ []) ((2 ∷ 0 ∷ 5 ∷ 0 ∷ []) ∷ (2 ∷ 0 ∷ 7 ∷ 0 ∷ []) ∷ [])
+    ∷ asks (distribution_start 0 5 0 5 0 0xc0) (distribution_status 0 1) (10 ∷ 1 ∷ 0 ∷ []) ((10 ∷ 0 ∷ 0 ∷ 0 ∷ []) ∷ (10 ∷ 0 ∷ 0 ∷ 0 ∷ []) ∷ [])
+    ∷ asks (receivers_get 0 9) (0x83 ∷ 0x15 ∷ 2 ∷ 0 ∷ 0 ∷ 0 ∷ 2 ∷ 0 ∷ 5 ∷ 0 ∷ 0 ∷ 3 ∷ 0 ∷ 5 ∷ 0 ∷ 0 ∷ []) (10 ∷ 1 ∷ 0 ∷ []) ((10 ∷ 0 ∷ 0 ∷ 0 ∷ []) ∷ (10 ∷ 0 ∷ 0 ∷ 0 ∷ []) ∷ [])
     ∷ []
 
 -- under Verify Only it rests, and applies once it is asked to

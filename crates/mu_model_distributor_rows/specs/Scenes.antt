@@ -203,6 +203,10 @@ transfer_of number = (0x83 ∷ 0x01 ∷ 0x40 ∷ []) ++ (transfer_id number ++ (
 abbrev pub metadata_refused : (status : ℕ) → List ℕ
 metadata_refused status = 0x83 ∷ 0x0b ∷ status ∷ 0 ∷ []
 
+-- a Transfer Status of a server without a transfer
+abbrev pub transfer_refused : (status : ℕ) → List ℕ
+transfer_refused status = 0x83 ∷ 0x03 ∷ status ∷ 0 ∷ []
+
 -- status and phase are in the first octet
 abbrev pub update_status : (first number : ℕ) → List ℕ
 update_status first number = (0x83 ∷ 0x10 ∷ first ∷ 5 ∷ 0 ∷ 0 ∷ 0 ∷ []) ++ (transfer_id number ++ (0 ∷ []))
