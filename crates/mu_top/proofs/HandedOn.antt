@@ -7,8 +7,8 @@ use Rattle.mu_outside.specs.Stream.{KeepsTold}
 use Rattle.mu_outside.specs.Gathering.{behind, GoesOn}
 use Rattle.mu_top.specs.Ends.{Doing, Barring, Wearing, Ends, EndsInPart, IsRefused, IsTraceOfSome, IsBeginning}
 use Rattle.mu_input.specs.Reading.{WhereTold}
-use Rattle.mu_top.specs.declared.status.Status.{Status}
-use Rattle.mu_top.specs.declared.status.Status.TheVariants.{Done, Usage, SourceFault, SinkFault, Refused, NoMemory, Worn, TooLong}
+use Rattle.mu_command_line.specs.declared.status.Status.{Status}
+use Rattle.mu_command_line.specs.declared.status.Status.TheVariants.{Done, Usage, SourceFault, SinkFault, FlashFault, Refused, NoMemory, Worn, TooLong}
 use Rattle.mu_top.proofs.Told.{Both, both_map, both_kept, where_told}
 
 -- nothing is gathered
@@ -62,6 +62,7 @@ module _ {W : Type 0} (Does : Doing W) (Bars : Barring W) (Wears : Wearing W) (s
     })),
   )) ends
   begun S0 S1 K0 K1 Usage ends part = both_map S0 S1 K0 K1 _ Begun (λ held left before after e. absurd e.2) ends
+  begun S0 S1 K0 K1 FlashFault ends part = both_map S0 S1 K0 K1 _ Begun (λ held left before after e. absurd e.2) ends
 
   -- a beginning of a beginning
   shorter : (held written rest whole : List ℕ) → written ++ rest ≡ whole → IsBeginning Does Bars start most held whole → IsBeginning Does Bars start most held written

@@ -6,8 +6,8 @@ use Rattle.mu_model_world.specs.Run.{Step, Bars, Wears}
 use Rattle.mu_world.specs.Moved.{Held, new_held}
 use Rattle.mu_top.specs.Ends.{EndsWith, Ends, IsRefused, IsTraceOfSome}
 use Rattle.mu_top.specs.HeldRun.{HeldStep, HeldBars, HeldWears}
-use Rattle.mu_top.specs.declared.status.Status.{Status}
-use Rattle.mu_top.specs.declared.status.Status.TheVariants.{Done, Usage, SourceFault, SinkFault, Refused, NoMemory, Worn, TooLong}
+use Rattle.mu_command_line.specs.declared.status.Status.{Status}
+use Rattle.mu_command_line.specs.declared.status.Status.TheVariants.{Done, Usage, SourceFault, SinkFault, FlashFault, Refused, NoMemory, Worn, TooLong}
 use Rattle.mu_top.proofs.Told.{where_told}
 
 run_world : (held : Held) (lines : List (List ℕ)) (text : List ℕ) (end : Held) → runs.Run HeldStep held lines text end → runs.Run Step held.world lines text end.world
@@ -60,6 +60,7 @@ end_world most held left written Worn e = record {
   wears = e.wears;
 }
 end_world most held left written Usage e = absurd e
+end_world most held left written FlashFault e = absurd e
 
 pub ends_world : (most : ℕ) (source source' sink sink' : Option (List ℕ)) (status : Status) → Ends HeldStep HeldBars HeldWears new_held most source source' sink sink' status → Ends Step Bars Wears new_world most source source' sink sink' status
 ends_world most source source' sink sink' status ends =

@@ -5,10 +5,10 @@ use Rattle.std.specs.List.{concat}
 use Rattle.std.proofs.lemmas.List.{take-append-drop}
 use Rattle.mu_top.specs.Images.{ImageTold, ReadAs, image_printed, parts_text, read_printed}
 use Rattle.mu_input.specs.Reading.{WhereTold}
-use Rattle.mu_top.specs.Reading.{WroteSome}
+use Rattle.mu_command_line.specs.Writing.{WroteSome}
 use Rattle.mu_top.specs.declared.image.ImageRead.{ImageRead}
 use Rattle.mu_top.specs.declared.image.ImageRead.TheVariants.{Whole, Empty, TooLarge}
-use Rattle.mu_top.specs.declared.status.Status.TheVariants.{SinkFault}
+use Rattle.mu_command_line.specs.declared.status.Status.TheVariants.{SinkFault}
 use Rattle.mu_top.proofs.Told.{where_told}
 
 printed_is : (version : ℕ) (held left : List ℕ) (read : ImageRead) → ReadAs version held left read → image_printed version held ≡ read_printed read

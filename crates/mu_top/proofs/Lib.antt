@@ -1,6 +1,6 @@
 pub mod HandedOn
 pub mod Told
-pub mod WordLists
+mod Commands
 pub mod Cuts
 pub mod Places
 pub mod Working
@@ -8,4 +8,3 @@ pub mod PayloadLines
 mod Printing
 mod HeldRuns
 mod ImageTexts
-mod Refusals

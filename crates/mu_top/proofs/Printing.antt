@@ -15,7 +15,7 @@ use Rattle.mu_model_wire.specs.declared.Refusal.{Refusal}
 use Rattle.mu_top.specs.LineDone.{DidLine, StopsLine}
 use Rattle.mu_top.specs.PayloadDone.{PrintsRead, Stopped}
 use Rattle.mu_top.specs.Payloads.{DoesPayload, BarsPayload, WearsPayload, bad_hex, of_reading, payload_line, printed}
-use Rattle.mu_top.specs.Reading.{Wrote, WroteSome}
+use Rattle.mu_command_line.specs.Writing.{Wrote, WroteSome}
 use Rattle.mu_top.specs.declared.payloads.PayloadText.{PayloadText}
 use Rattle.mu_top.specs.declared.payloads.PayloadText.TheVariants.{Canonical, Shown}
 use Rattle.mu_top.specs.declared.work.LineStop.{LineStop}

@@ -10,12 +10,12 @@ use Rattle.mu_model_script.specs.Texts.{refused_text}
 use Rattle.mu_top.specs.Ends.{Doing, Barring, Wearing, EndsWith, Ends, EndsInPart, Completes, EndsAsItMust, NoneWears, OrNoMemory, Told, IsWhole, IsRefused, IsTooLong, IsInPart, IsTraceOfSome, IsBeginning}
 use Rattle.mu_top.specs.LineDone.{StopsLine, EndsAt}
 use Rattle.mu_input.specs.Reading.{IsPart, Reader, to_come, WhereTold, IsAtRest, NextLine, GivesLine, Took}
-use Rattle.mu_top.specs.Reading.{Wrote, WroteSome}
+use Rattle.mu_command_line.specs.Writing.{Wrote, WroteSome}
 use Rattle.mu_input.specs.declared.reader.Next.{Next}
 use Rattle.mu_input.specs.declared.reader.Next.TheVariants.{Line, Last, End}
 use Rattle.mu_input.specs.declared.reader.ReadStop.TheVariants as Stop
-use Rattle.mu_top.specs.declared.status.Status.TheVariants.{Done, Usage, SourceFault, SinkFault, Refused as IsRefusedStatus, NoMemory, Worn, TooLong}
-use Rattle.mu_top.specs.declared.status.Status.{Status}
+use Rattle.mu_command_line.specs.declared.status.Status.TheVariants.{Done, Usage, SourceFault, SinkFault, FlashFault, Refused as IsRefusedStatus, NoMemory, Worn, TooLong}
+use Rattle.mu_command_line.specs.declared.status.Status.{Status}
 use Rattle.mu_top.specs.declared.work.LineStop.{LineStop}
 use Rattle.mu_top.specs.declared.work.LineStop.TheVariants.{Memory, Worn as WornLine, Sink, Refused as RefusedLine}
 use Rattle.mu_top.proofs.Told.{Both, both_self, both_map, both_source, both_sink, where_told}
@@ -343,6 +343,7 @@ module _ {W : Type 0} (Does : Doing W) (Bars : Barring W) (Wears : Wearing W) (s
   refused_told S0 S1 K0 K1 K2 X number place word Worn f x told = absurd told
   refused_told S0 S1 K0 K1 K2 X number place word Done f x told = absurd told
   refused_told S0 S1 K0 K1 K2 X number place word Usage f x told = absurd told
+  refused_told S0 S1 K0 K1 K2 X number place word FlashFault f x told = absurd told
   refused_told S0 S1 K0 K1 K2 X number place word SourceFault f x told = absurd told
   refused_told S0 S1 K0 K1 K2 X number place word TooLong f x told = absurd told
 
@@ -538,6 +539,7 @@ module _ {W : Type 0} (Does : Doing W) (Bars : Barring W) (Wears : Wearing W) (s
   must_end held left written SourceFault ends reads writes = absurd (reads refl)
   must_end held left written SinkFault ends reads writes = absurd (writes refl)
   must_end held left written Usage ends reads writes = absurd ends
+  must_end held left written FlashFault ends reads writes = absurd ends
 
   pub completes : (All : List ℕ → Status → Type 0)
       → ((held left written : List ℕ) (status : Status) → EndsWith Does Bars Wears start most held left written status → Must held status → (status ≡ SourceFault → ⊥) → (status ≡ SinkFault → ⊥) → All held status)

@@ -5,9 +5,9 @@ use Rattle.mu_model_script.specs.Limits.{first_lines, ended_lines, Passes}
 use Rattle.mu_model_script.specs.Runs.{Run, Prints, Refuses}
 use Rattle.mu_model_script.specs.Texts.{refused_text}
 use Rattle.mu_input.specs.Reading.{WhereTold}
-use Rattle.mu_top.specs.Status.{number_of}
-use Rattle.mu_top.specs.declared.status.Status.{Status}
-use Rattle.mu_top.specs.declared.status.Status.TheVariants.{Done, SourceFault, SinkFault, Refused, NoMemory, Worn, TooLong}
+use Rattle.mu_command_line.specs.Status.{number_of}
+use Rattle.mu_command_line.specs.declared.status.Status.{Status}
+use Rattle.mu_command_line.specs.declared.status.Status.TheVariants.{Done, SourceFault, SinkFault, Refused, NoMemory, Worn, TooLong}
 
 -- from a state, by a line, with a text, to a state
 abbrev pub Doing : Type 0 → Type 1

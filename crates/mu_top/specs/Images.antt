@@ -10,8 +10,8 @@ use Rattle.mu_top.specs.Ends.{ByNumber}
 use Rattle.mu_input.specs.Reading.{WhereTold}
 use Rattle.mu_top.specs.declared.image.ImageRead.{ImageRead}
 use Rattle.mu_top.specs.declared.image.ImageRead.TheVariants.{Whole, Empty, TooLarge}
-use Rattle.mu_top.specs.declared.status.Status.{Status}
-use Rattle.mu_top.specs.declared.status.Status.TheVariants.{Done, SourceFault, SinkFault, Refused}
+use Rattle.mu_command_line.specs.declared.status.Status.{Status}
+use Rattle.mu_command_line.specs.declared.status.Status.TheVariants.{Done, SourceFault, SinkFault, Refused}
 
 -- size S version V digest D, metadata HEX and id HEX, on three lines
 abbrev pub parts_text : (size version digest metadata id : List ℕ) → List ℕ

@@ -1,6 +1,4 @@
-pub mod Reading
 pub mod Words
-pub mod Status
 pub mod Ends
 pub mod Replay
 pub mod LineDone

@@ -4,9 +4,9 @@ use Rattle.mu_model_script.specs.Texts.{refused_text}
 use Rattle.mu_model_world.specs.World.{World}
 use Rattle.mu_model_world.specs.Run.{Step, Bars, Wears}
 use Rattle.mu_top.specs.Ends.{Doing, Barring, Wearing, Told}
-use Rattle.mu_top.specs.Reading.{Wrote, WroteSome}
-use Rattle.mu_top.specs.declared.status.Status.{Status}
-use Rattle.mu_top.specs.declared.status.Status.TheVariants.{NoMemory, SinkFault, Worn as WornOut}
+use Rattle.mu_command_line.specs.Writing.{Wrote, WroteSome}
+use Rattle.mu_command_line.specs.declared.status.Status.{Status}
+use Rattle.mu_command_line.specs.declared.status.Status.TheVariants.{NoMemory, SinkFault, Worn as WornOut}
 use Rattle.mu_top.specs.declared.work.LineStop.{LineStop}
 use Rattle.mu_top.specs.declared.work.LineStop.TheVariants.{Memory, Worn, Sink, Refused}
 

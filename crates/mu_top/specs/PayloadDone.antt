@@ -5,7 +5,7 @@ use Rattle.hex.specs.Hex.{decode_of}
 use Rattle.mu_model_wire.specs.Fields.{Message}
 use Rattle.mu_model_wire.specs.declared.Refusal.{Refusal}
 use Rattle.mu_top.specs.Payloads.{bad_hex, printed, why_word}
-use Rattle.mu_top.specs.Reading.{Wrote, WroteSome}
+use Rattle.mu_command_line.specs.Writing.{Wrote, WroteSome}
 use Rattle.mu_top.specs.declared.payloads.PayloadText.{PayloadText}
 use Rattle.mu_top.specs.declared.work.LineStop.{LineStop}
 use Rattle.mu_top.specs.declared.work.LineStop.TheVariants.{Sink, Refused as RefusedLine}

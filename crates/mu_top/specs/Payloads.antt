@@ -17,8 +17,8 @@ use Rattle.mu_top.specs.declared.payloads.PayloadText.{PayloadText}
 use Rattle.mu_top.specs.declared.payloads.PayloadText.TheVariants.{Canonical, Shown}
 use Rattle.mu_model_script.specs.Runs as runs
 use Rattle.mu_top.specs.Ends.{Doing, Barring, Wearing, Ends, EndsAsItMust, OrNoMemory, Completes, ByNumber}
-use Rattle.mu_top.specs.declared.status.Status.{Status}
-use Rattle.mu_top.specs.declared.status.Status.TheVariants.{Refused as RefusedStatus}
+use Rattle.mu_command_line.specs.declared.status.Status.{Status}
+use Rattle.mu_command_line.specs.declared.status.Status.TheVariants.{Refused as RefusedStatus}
 
 -- what a line comes to
 pub data PayloadLine : Type 0 where

@@ -5,8 +5,8 @@ use Rattle.mu_model_world.specs.Laws.{FixesItsRun}
 use Rattle.mu_model_world.specs.World.{new_world}
 use Rattle.mu_model_world.specs.Run.{Step, Bars, Wears, Refuses}
 use Rattle.mu_top.specs.Ends.{Ends, EndsAsItMust, NoneWears, OrNoMemory, Completes, ByNumber}
-use Rattle.mu_top.specs.declared.status.Status.{Status}
-use Rattle.mu_top.specs.declared.status.Status.TheVariants.{Refused}
+use Rattle.mu_command_line.specs.declared.status.Status.{Status}
+use Rattle.mu_command_line.specs.declared.status.Status.TheVariants.{Refused}
 
 abbrev pub Replayed : (source source' sink sink' : Option (List ℕ)) (number : ℕ) → Type 0
 Replayed source source' sink sink' number = ByNumber (Ends Step Bars Wears new_world most_lines source source' sink sink') number

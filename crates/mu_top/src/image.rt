@@ -5,11 +5,10 @@ ghost use Rattle.mu_image.specs.Digests.{HasTaken};
 ghost use Rattle.mu_model_flash.specs.Cause.{HasCause, Rose};
 ghost use Rattle.mu_top.specs.Images.{ImageTold, IsStatusOf, ReadAs, image_refusal, meta_text, parts_text, read_printed};
 ghost use Rattle.mu_input.specs.Reading.{WhereTold};
-ghost use Rattle.mu_top.specs.Reading.{Wrote, WroteSome};
+ghost use Rattle.mu_command_line.specs.Writing.{Wrote, WroteSome};
 
-use crate::status::Status;
-use crate::writing::{write_pieces, write_refusal};
 use itoa::Buffer;
+use mu_command_line::{Status, write_pieces, write_refusal};
 use mu_image::{Digesting, Meta, fwid_of, meta_octets};
 use mu_outside::{Failed, Sink, Source};
 

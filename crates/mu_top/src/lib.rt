@@ -7,11 +7,9 @@ mod line;
 mod payload;
 mod payloads;
 mod replay;
-mod status;
 mod words;
 mod work;
-mod writing;
 
 pub use call::{Ended, top};
-pub use status::Status;
-pub use words::{Command, WordList, read_words};
+pub use mu_command_line::{Status, WordList};
+pub use words::{Command, read_words};

@@ -2,7 +2,7 @@
 ghost use Rattle.std.specs.Prelude.{◌≡◌, ◌≢◌, ◌≤◌, ◌++◌, ◌∷◌, [], length, IfErr, OnOk, OnErr};
 ghost use Rattle.hex.specs.Hex.{encode_lower};
 ghost use Rattle.mu_model_script.specs.Pieces.{line_feed};
-ghost use Rattle.mu_top.specs.Reading.{Wrote, WroteSome};
+ghost use Rattle.mu_command_line.specs.Writing.{Wrote, WroteSome};
 ghost use Rattle.mu_model_wire.specs.Reading.{message_at};
 ghost use Rattle.mu_model_wire.specs.Table.{rows};
 ghost use Rattle.mu_model_flash.specs.Cause.{HasCause, Rose};
@@ -12,10 +12,9 @@ ghost use Rattle.mu_top.specs.PayloadDone.{PrintsRead};
 ghost use Rattle.mu_top.specs.Payloads.{BarsPayload, DoesPayload, PayloadsEnd, WearsPayload};
 
 use crate::payload::{is_silent, octets_of, refused};
-use crate::status::Status;
 use crate::work::{LineStop, LineWork, run};
-use crate::writing::write_pieces;
 use mu_access::{canonical, show_octets};
+use mu_command_line::{Status, write_pieces};
 use mu_outside::{Failed, Sink, Source};
 
 /// As many lines as octets: no limit beside that on octets.

@@ -8,9 +8,8 @@ ghost use Rattle.mu_top.specs.Ends.{Completes, Ends};
 ghost use Rattle.mu_top.specs.Replay.{ScriptEnds};
 
 use crate::line::do_line;
-use crate::status::Status;
 use crate::work::{LineStop, LineWork, run};
-use crate::writing::write_all;
+use mu_command_line::{Status, write_all};
 use mu_model_world::laws::runs;
 use mu_outside::{Sink, Source};
 use mu_world::{Lines, World};

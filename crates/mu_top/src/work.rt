@@ -6,8 +6,7 @@ ghost use Rattle.mu_outside.specs.Stream.{KeepsTold};
 ghost use Rattle.mu_top.specs.Ends.{Ends, EndsInPart, Told};
 ghost use Rattle.mu_top.specs.LineDone.{DidLine, StopsLine, EndsAt};
 
-use crate::status::Status;
-use crate::writing::write_refusal;
+use mu_command_line::{Status, write_refusal};
 use mu_input::{LineReader, Next, ReadStop};
 use mu_outside::{Failed, Gather, Gathered, Lent, Loan, Sink, Source};
 use std::marker::Brand;

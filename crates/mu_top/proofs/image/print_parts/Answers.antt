@@ -1,6 +1,6 @@
 use Rattle.std.proofs.Common.{subst}
 use Rattle.std.specs.Result.{OnOk, OnErr}
-use Rattle.mu_top.specs.Reading.{Wrote, WroteSome}
+use Rattle.mu_command_line.specs.Writing.{Wrote, WroteSome}
 use Rattle.mu_top.proofs.ImageTexts.{parts_are}
 use Rattle.mu_top.proofs.image.print_parts.Goals as goal
 

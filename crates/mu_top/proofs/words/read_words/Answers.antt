@@ -1,5 +1,5 @@
 use Rattle.std.proofs.Common.{sym, ◌∙◌}
-use Rattle.mu_top.proofs.WordLists.{image_words}
+use Rattle.mu_top.proofs.Commands.{image_words}
 use Rattle.mu_top.proofs.words.read_words.Goals as goal
 
 pub returns-then-eq : goal.returns-then-eq

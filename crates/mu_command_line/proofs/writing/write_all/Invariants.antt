@@ -1,6 +1,6 @@
 use Rattle.std.proofs.Common.{◌-◌, ◌≤◌, length, take}
-use Rattle.mu_top.specs.Reading.{Wrote}
-use Rattle.mu_top.proofs.writing.write_all.Given as goal
+use Rattle.mu_command_line.specs.Writing.{Wrote}
+use Rattle.mu_command_line.proofs.writing.write_all.Given as goal
 
 abbrev pub invariant-loop-done : goal.invariant-loop-done
 invariant-loop-done g l = record {

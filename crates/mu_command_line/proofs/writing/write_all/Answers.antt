@@ -1,6 +1,6 @@
 use Rattle.std.proofs.Common.{arith, length-take, length-drop}
-use Rattle.mu_top.proofs.Told.{wrote_more}
-use Rattle.mu_top.proofs.writing.write_all.Goals as goal
+use Rattle.mu_command_line.proofs.Pieces.{wrote_more}
+use Rattle.mu_command_line.proofs.writing.write_all.Goals as goal
 
 pub loop-done-preserved : goal.loop-done-preserved
 loop-done-preserved g c = record {

@@ -1,8 +1,8 @@
 use Rattle.std.proofs.Common.{subst}
 use Rattle.std.specs.Result.{OnOk, OnErr}
-use Rattle.mu_top.specs.Reading.{Wrote, WroteSome}
-use Rattle.mu_top.proofs.Refusals.{refusal_is}
-use Rattle.mu_top.proofs.writing.write_refusal_parts.Goals as goal
+use Rattle.mu_command_line.specs.Writing.{Wrote, WroteSome}
+use Rattle.mu_command_line.proofs.Refusals.{refusal_is}
+use Rattle.mu_command_line.proofs.writing.write_refusal_parts.Goals as goal
 
 pub returns-clause-ok : goal.returns-clause-ok
 returns-clause-ok g c =

@@ -4,8 +4,7 @@ use Rattle.std.specs.Prelude.{sum, sum_by, Result, Ok, Err, IsOk, OnOk, is_err, 
 use Rattle.std.proofs.lemmas.Bool.{cases_lt}
 use Rattle.std.proofs.lemmas.List.Sums.{sum_by-append}
 use Rattle.std.proofs.lemmas.List.{take-append-le, take_all, drop-append-le, length-take}
-use Rattle.std.specs.Prelude.{bytes_eq, codes}
-use Rattle.mu_top.specs.Words.{Command, words_of, with_word, word_at, if_few, command_of, image_command}
+use Rattle.mu_command_line.specs.Words.{words_of, with_word, if_few}
 
 sum-cons : (x : ℕ) (xs : List ℕ) → sum (x ∷ xs) ≡ x + sum xs
 sum-cons x xs = let e = sum_by-append (λ (n : ℕ). n) (x ∷ []) xs in omega (arith, e)
@@ -111,14 +110,3 @@ was_too_long (Err e) n room is h =
 pub was_short : {E P : Type 0} (r : Result (Unit {0}) E) → false ≡ is_err r → IsOk r ↔ P → P
 was_short (Ok x) is h = h.0 refl
 was_short (Err e) is h = cc is
-
--- ---- a command with keys
-
--- a list whose first word is `image` asks for what its keys say
-pub image_words : (words : Option (List (List ℕ))) (word : List ℕ) (result : Option Command) → word_at words 0 ≡ Some word → bytes_eq word (codes "image") ≡ true
-    → ((name : List ℕ) (keys : List (List ℕ)) → words ≡ Some (name ∷ keys) → result ≡ image_command keys) → result ≡ command_of words
-image_words None word result first is by = absurd cc
-image_words (Some []) word result first is by = absurd cc
-image_words (Some (name ∷ keys)) word result first is by =
-    let same : name ≡ word = cc in
-    rw (same, is) (by name keys refl)

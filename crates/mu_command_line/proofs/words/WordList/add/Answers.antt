@@ -1,6 +1,6 @@
 use Rattle.std.proofs.Common.{◌<◌, ◌≤◌, ◌+◌, length, inl, inr, sym, arith}
-use Rattle.mu_top.proofs.WordLists.{with_word-room, with_word-none, was_taken, was_short, was_too_long}
-use Rattle.mu_top.proofs.words.WordList.add.Goals as goal
+use Rattle.mu_command_line.proofs.WordLists.{with_word-room, with_word-none, was_taken, was_short, was_too_long}
+use Rattle.mu_command_line.proofs.words.WordList.add.Goals as goal
 
 pub returns-then-is_full : goal.returns-then-is_full
 returns-then-is_full c =

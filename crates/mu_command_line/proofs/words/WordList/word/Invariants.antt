@@ -1,7 +1,7 @@
 use Rattle.std.proofs.Common.{◌≡◌, ◌≤◌, ◌-◌, length, drop}
 use Rattle.std.specs.Prelude.{sum, slice_get}
-use Rattle.mu_top.specs.Words.{words_of}
-use Rattle.mu_top.proofs.words.WordList.word.Given as goal
+use Rattle.mu_command_line.specs.Words.{words_of}
+use Rattle.mu_command_line.proofs.words.WordList.word.Given as goal
 
 abbrev pub invariant-loop-k : goal.invariant-loop-k
 invariant-loop-k l = record {

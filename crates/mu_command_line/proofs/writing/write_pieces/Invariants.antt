@@ -1,7 +1,7 @@
 use Rattle.std.proofs.Common.{◌≤◌, map, take}
 use Rattle.std.specs.List.{concat}
-use Rattle.mu_top.specs.Reading.{Wrote}
-use Rattle.mu_top.proofs.writing.write_pieces.Given as goal
+use Rattle.mu_command_line.specs.Writing.{Wrote}
+use Rattle.mu_command_line.proofs.writing.write_pieces.Given as goal
 
 abbrev pub invariant-loop-piece : goal.invariant-loop-piece
 invariant-loop-piece g l = record {

@@ -1,6 +1,6 @@
 // How a command ends.
 ghost use Rattle.std.specs.Prelude.{◌≡◌};
-ghost use Rattle.mu_top.specs.Status.{number_of};
+ghost use Rattle.mu_command_line.specs.Status.{number_of};
 
 /// How a command ends (this profile). Each has a number, the program's exit status.
 #[derive(Clone, Copy, Debug, PartialEq, Eq)]
@@ -13,7 +13,9 @@ pub enum Status {
     SourceFault,
     /// The sink failed.
     SinkFault,
-    /// A line isn't as it should be.
+    /// The flash failed.
+    FlashFault,
+    /// A line, an image or the number of a flash's pages isn't as it should be.
     Refused,
     /// Want of memory.
     NoMemory,
@@ -25,7 +27,7 @@ pub enum Status {
 
 impl Status {
     ghost use Rattle.std.specs.Prelude.{◌≡◌};
-    ghost use Rattle.mu_top.specs.Status.{number_of};
+    ghost use Rattle.mu_command_line.specs.Status.{number_of};
 
     /// The exit status.
     pub fn number(self) -> u8
@@ -36,6 +38,7 @@ impl Status {
             Status::Usage => 2,
             Status::SourceFault => 3,
             Status::SinkFault => 4,
+            Status::FlashFault => 5,
             Status::Refused => 7,
             Status::NoMemory => 9,
             Status::Worn => 12,

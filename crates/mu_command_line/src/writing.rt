@@ -3,13 +3,13 @@ ghost use Rattle.std.specs.Prelude.{◌≡◌, ◌∷◌, [], codes, map, OnOk, 
 ghost use Rattle.std.specs.List.{concat};
 ghost use Rattle.mu_model_flash.specs.Cause.{HasCause};
 ghost use Rattle.mu_model_script.specs.Texts.{refused_text, text_line};
-ghost use Rattle.mu_top.specs.Reading.{Wrote, WroteSome};
+ghost use Rattle.mu_command_line.specs.Writing.{Wrote, WroteSome};
 
 use itoa::Buffer;
 use mu_outside::{Failed, Sink};
 
 /// Writes all of a piece. Where the sink fails, a beginning of it was written.
-pub(crate) fn write_all<K: Sink>(sink: &mut K, bytes: &[u8]) -> Result<(), Failed>
+pub fn write_all<K: Sink>(sink: &mut K, bytes: &[u8]) -> Result<(), Failed>
     ensures ok { OnOk result (Wrote (K.written sink.old) (K.written sink.new) bytes.now) }
     ensures err { OnErr result (WroteSome (K.written sink.old) (K.written sink.new) bytes.now) }
     ensures cause { HasCause (K.faults sink.old) (K.faults sink.new) result }
@@ -22,7 +22,7 @@ pub(crate) fn write_all<K: Sink>(sink: &mut K, bytes: &[u8]) -> Result<(), Faile
 }
 
 /// Writes all of some pieces, one after the other. Where the sink fails, a beginning of them was written.
-pub(crate) fn write_pieces<K: Sink>(sink: &mut K, pieces: &[&[u8]]) -> Result<(), Failed>
+pub fn write_pieces<K: Sink>(sink: &mut K, pieces: &[&[u8]]) -> Result<(), Failed>
     ensures ok { OnOk result (Wrote (K.written sink.old) (K.written sink.new) (concat (map (λ piece. piece.now) pieces.now))) }
     ensures err { OnErr result (WroteSome (K.written sink.old) (K.written sink.new) (concat (map (λ piece. piece.now) pieces.now))) }
     ensures cause { HasCause (K.faults sink.old) (K.faults sink.new) result }
@@ -57,7 +57,7 @@ fn write_refusal_parts<K: Sink>(
 }
 
 /// Writes the line of a refusal: the line's number from 1, or 0 where there are no lines, the place, and the word for why.
-pub(crate) fn write_refusal<K: Sink>(
+pub fn write_refusal<K: Sink>(
     sink: &mut K,
     number: u32,
     place: u32,

@@ -1,8 +1,8 @@
 use Rattle.std.proofs.Common.{arith, map, Bor, List, ℕ, []}
 use Rattle.std.proofs.lemmas.List.{length-map}
 use Rattle.std.proofs.Math.ListN.{get_or-map}
-use Rattle.mu_top.proofs.Told.{piece_wrote, piece_cut, on_err}
-use Rattle.mu_top.proofs.writing.write_pieces.Goals as goal
+use Rattle.mu_command_line.proofs.Pieces.{piece_wrote, piece_cut, on_err}
+use Rattle.mu_command_line.proofs.writing.write_pieces.Goals as goal
 
 pub returns-in_err-write_all-clause-err : goal.returns-in_err-write_all-clause-err
 returns-in_err-write_all-clause-err g c =
