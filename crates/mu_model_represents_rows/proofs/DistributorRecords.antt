@@ -1,9 +1,8 @@
 -- Records that are a distributor's.
-use Rattle.std.proofs.Common.{◌≡◌, ℕ, zero, suc, ◌+◌, ◌*◌, ◌<◌, ◌≤◌, true, None, inl, inr, List, [], ◌∷◌, ◌++◌, length, take, drop, get_or, refl, sym, ◌∙◌, ap, arith}
+use Rattle.std.proofs.Common.{◌≡◌, ℕ, zero, suc, ◌+◌, ◌*◌, ◌<◌, ◌≤◌, true, None, inl, inr, List, ◌++◌, length, take, drop, get_or, refl, sym, ◌∙◌, ap, arith}
 use Rattle.std.specs.Prelude.{replicate, slice_get, slice_index, slice_index_or}
 use Rattle.std.proofs.lemmas.List.{get_or-drop, get_or-take, drop_at, drop-drop, ext_get_or, length-drop, length-take-le, get_or-replicate, length-replicate}
 use Rattle.mu_model_flash.specs.Bits.{part_of}
-use Rattle.mu_model_record.specs.declared.BankState.TheVariants.{Empty}
 use Rattle.mu_model_record.specs.Record.{zeros, entry_of, IsFilling}
 use Rattle.mu_model_represents.specs.BlobPart.{note_part}
 use Rattle.mu_model_represents.specs.Images.{IsSealed, is_among}

@@ -1,2 +1,3 @@
 pub mod NodeRecords
 pub mod DistributorRecords
+pub mod ManyReceivers

@@ -1,7 +1,7 @@
 -- Records that are a node's.
 use Rattle.std.proofs.Common.{ℕ, zero, suc, [], ◌∷◌, ◌++◌, refl, inl, inr, arith}
 use Rattle.mu_model_flash.specs.Bits.{part_of}
-use Rattle.mu_model_record.specs.declared.BankState.TheVariants.{Empty, Filling, Sealed}
+use Rattle.mu_model_record.specs.declared.BankState.TheVariants.{Empty}
 use Rattle.mu_model_record.specs.Record.{zeros, entry_of, IsFilling}
 use Rattle.mu_model_represents_rows.specs.NodeRecords.{NodeRecords, digest, first, second, record_of}
 

@@ -1,7 +1,6 @@
 -- Records that are a distributor's, octet by octet, at the ends of the ranges of their fields.
 use Rattle.std.specs.Prelude.{ℕ, List, [], ◌∷◌, ◌++◌, replicate, Option, Some, None}
 use Rattle.mu_model_record.specs.declared.Record.{Record}
-use Rattle.mu_model_record.specs.declared.BankState.{BankState}
 use Rattle.mu_model_record.specs.declared.BankState.TheVariants.{Empty}
 use Rattle.mu_model_record.specs.Record.{zeros}
 use Rattle.mu_model_distributor.specs.declared.DistPhase.TheVariants.{Idle, TransferActive, Completed, Failed, TransferSuspended}

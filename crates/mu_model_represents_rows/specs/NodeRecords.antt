@@ -1,6 +1,5 @@
 -- Records that are a node's, octet by octet, at the ends of the ranges of their fields.
 use Rattle.std.specs.Prelude.{ℕ, List, [], ◌∷◌, ◌++◌, replicate, Some, None}
-use Rattle.mu_model_record.specs.declared.Record.{Record}
 use Rattle.mu_model_record.specs.declared.BankState.{BankState}
 use Rattle.mu_model_record.specs.declared.BankState.TheVariants.{Empty, Filling, Sealed}
 use Rattle.mu_model_record.specs.Record.{zeros}
