@@ -1,15 +1,16 @@
 -- The record that is written next is a node's.
-use Rattle.std.proofs.Common.{◌≡◌, ◌∙◌, ◌<◌, ◌≤◌, ◌⊎◌, inl, inr, ℕ, ◌+◌, List, [], ◌∷◌, length, refl, sym, ap, subst, arith}
-use Rattle.std.specs.Prelude.{false}
+use Rattle.std.proofs.Common.{◌≡◌, ◌∙◌, ◌<◌, ◌≤◌, ◌⊎◌, inl, inr, ℕ, ◌+◌, List, [], ◌∷◌, length, Option, Some, None, refl, sym, ap, subst, arith}
+use Rattle.std.specs.Prelude.{false, slice_index}
 use Rattle.std.specs.List.{AllByRecursion}
-use Rattle.mu_model_flash.specs.Bits.{part_of}
+use Rattle.mu_model_image.specs.Laws.{MetaThatIsReadIsInRange}
+use Rattle.mu_model_flash.specs.Bits.{AreOctets, part_of}
 use Rattle.mu_model_flash.specs.Laws.{RangeLaws}
 use Rattle.mu_model_record.specs.Record.{zeros, IsRecord}
 use Rattle.mu_model_record.specs.Next.{fresh_after}
 use Rattle.mu_model_node.specs.FlashWork.{fresh_after as fresh_left}
 use Rattle.mu_model_represents.specs.BlobPart.{note_part}
-use Rattle.mu_model_represents.specs.NodeNote.{NodeNote, SpellsNote, SpellsOldNote, IsNodeNote, note_octets}
-use Rattle.mu_model_represents.specs.Notes.{NodeNoteIsReadBack}
+use Rattle.mu_model_represents.specs.NodeNote.{NoteJob, NodeNote, HasNoteJob, index_of, SpellsNote, SpellsOldNote, IsNodeNote, note_octets}
+use Rattle.mu_model_represents.specs.Notes.{NoteFits, NodeNoteIsReadBack}
 use Rattle.mu_model_represents.specs.Octets.{TagLaws}
 use Rattle.mu_model_represents.specs.Short.{RecordIsShortByItsNote}
 use Rattle.mu_model_stored_node.specs.Steps.{ShortFreshIsTheSame}
@@ -39,3 +40,19 @@ pub written_short : RangeLaws → TagLaws → RecordIsShortByItsNote → ShortFr
 written_short ranges laws by_note same m fresh rules is =
     let many : length (note_part m.present.tag) ≡ 1728 = ranges.parts.length_part m.present.tag 64 1728 (omega (arith, is.tag_size)) in
     same fresh m.present ((by_note m.present is).1 (note_zeros laws m.note (note_part m.present.tag) many rules.note_octets.spells))
+
+job_fits : TagLaws → MetaThatIsReadIsInRange → (job : Option NoteJob) (octets : List ℕ) → AreOctets octets → HasNoteJob job octets → index_of job < 256 → NoteFits job
+job_fits laws in_range None octets are has index = tt
+job_fits laws in_range (Some j) octets are has index = record {
+  ttl = omega (arith, has.ttl_at_3, are 3);
+  meta = in_range (part_of octets 4 40) j.meta (laws.octets.each (part_of octets 4 40) (laws.octets.of_part octets 4 40 are)) has.metadata_at_4;
+  index = index;
+}
+
+fits_by : TagLaws → MetaThatIsReadIsInRange → (note : NodeNote) (octets : List ℕ) → AreOctets octets → SpellsNote note octets ⊎ SpellsOldNote note octets → NoteFits note.job
+fits_by laws in_range note octets are (inl new) = job_fits laws in_range note.job octets are new.job_at_2 (omega (arith, new.index_at_45, are 45))
+fits_by laws in_range note octets are (inr old) = job_fits laws in_range note.job octets are old.job_at_2 (omega (arith, old.index_0))
+
+pub note_fits : TagLaws → MetaThatIsReadIsInRange → (m : InMemory) → IsNodeMemory m → IsRecord m.present → NoteFits m.note.job
+note_fits laws in_range m rules is =
+    fits_by laws in_range m.note (note_part m.present.tag) (laws.octets.of_part m.present.tag 64 1728 is.tag_octets) rules.note_octets.spells

@@ -25,3 +25,7 @@ WrittenIsANode = (m next : InMemory) → IsNodeMemory m → IsRecord m.present �
 -- both notions of what is fresh agree after it
 abbrev pub WrittenIsShort : Type 0
 WrittenIsShort = (m : InMemory) (fresh : ℕ) → IsNodeMemory m → IsRecord m.present → fresh_after fresh m.present ≡ fresh_left false fresh
+
+-- what a node's note keeps of its job has its places
+abbrev pub NodeNoteFits : Type 0
+NodeNoteFits = (m : InMemory) → IsNodeMemory m → IsRecord m.present → NoteFits m.note.job

@@ -1,10 +1,11 @@
 //! Laws of the definitions: functions that do nothing, whose contracts are proved.
 
 ghost use Rattle.mu_model_written_node.specs.Free.{OneBankIsFree, ActiveBanksAreThere};
-ghost use Rattle.mu_model_written_node.specs.Memory.{WrittenIsANode, WrittenIsShort};
+ghost use Rattle.mu_model_written_node.specs.Memory.{WrittenIsANode, WrittenIsShort, NodeNoteFits};
 ghost use Rattle.mu_model_written_node.specs.Written.{LostIsWritten, TakenIsWritten, AppliedIsWritten};
 
 use mu_model_flash::laws::ranges_of_octets;
+use mu_model_image::laws::metadata;
 use mu_model_jobs::laws::states_stay;
 use mu_model_represents::laws::{
     images_of_banks, octets_of_tags, records_are_short, represented_is_sound, runs_are_read,
@@ -23,7 +24,9 @@ pub fn one_bank_is_free()
 pub fn written_in_memory()
     ensures node { WrittenIsANode }
     ensures short { WrittenIsShort }
+    ensures fits { NodeNoteFits }
 {
+    metadata();
     ranges_of_octets();
     rules_go_on();
     written_note();

@@ -3,3 +3,6 @@ pub mod Booted
 pub mod Looked
 pub mod Plugged
 pub mod Judged
+pub mod Ran
+pub mod Recorded
+pub mod Applied

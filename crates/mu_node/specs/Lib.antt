@@ -3,3 +3,5 @@ pub mod Memory
 pub mod Views
 pub mod Readings
 pub mod Boots
+pub mod Ways
+pub mod Does

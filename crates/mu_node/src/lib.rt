@@ -2,12 +2,15 @@
 #![tactic(auto)]
 
 mod booting;
+mod free;
 mod judging;
 mod laws;
 mod looking;
 mod node;
 mod plugging;
 mod readers;
+mod records;
+mod ways;
 
 pub use mu_blobsrv::{BootFail, BootWhy};
 pub use mu_model_node::NodeConfig;
