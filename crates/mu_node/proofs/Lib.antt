@@ -6,3 +6,4 @@ pub mod Judged
 pub mod Ran
 pub mod Recorded
 pub mod Applied
+pub mod Given

@@ -83,10 +83,11 @@ module _ {F : Type 0} {g : _} (seen : F → Seen) (laws : RunLaws StateOf readin
   pub record_ran : (memory_of new).part ≡ part → (memory_of new).note ≡ note
       → Ran (either RepresentsStore) s (record_steps (place_fresh (place_in old)) s e) (seen_of seen old) (seen_of seen new) × PlaceHolds seen (place_in new) (last_of s (record_steps (place_fresh (place_in old)) s e))
       → Ran (either RepresentsNode) n.durable (work_by n.fresh n.durable o.next.durable o.work) (seen_of seen old) (seen_of seen new) × HasOnFlash seen new o.next.durable
-  record_ran same_part same_note run =
-      (subst (λ (l : List NodeDurable). Ran (either RepresentsNode) n.durable l (seen_of seen old) (seen_of seen new)) (sym steps_are)
-      ((ran seen laws (place_in old) (place_in new) (place_fresh (place_in old)) s e part note n.durable o.next.durable is) run.0),
-      on_flash seen new (place_fresh (place_in old)) s e part note n.durable o.next.durable is run.1 same_part same_note)
+  record_ran same_part same_note run = (
+    subst (λ (l : List NodeDurable). Ran (either RepresentsNode) n.durable l (seen_of seen old) (seen_of seen new)) (sym steps_are)
+        ((ran seen laws (place_in old) (place_in new) (place_fresh (place_in old)) s e part note n.durable o.next.durable is) run.0),
+    on_flash seen new (place_fresh (place_in old)) s e part note n.durable o.next.durable is run.1 same_part same_note,
+  )
 
 pub record_broke : {F : Type 0} {g : _} (seen : F → Seen) → RunLaws StateOf reading_of seen → (old new : Place F g) (n : NodeState) (o : Outcome) (s e : StoreState) (part : Option BlobJob) (note : NodeNote) → n.fresh ≡ place_fresh old
     → o.work ≡ Recorded false → IsWritten s e part note n.durable o.next.durable → Broke (either RepresentsStore) s (record_steps (place_fresh old) s e) (place_seen seen old) (place_seen seen new)

@@ -5,3 +5,4 @@ pub mod Readings
 pub mod Boots
 pub mod Ways
 pub mod Does
+pub mod Taken

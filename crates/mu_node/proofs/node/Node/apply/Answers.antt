@@ -67,7 +67,7 @@ returns-in-Ok-clause-runs g c to n h is =
     } in
     let written = applied_written c.written_in_a_store.ensures.applied s (part_in (store_of node.server)) (node_note node.note) (note_job c.args.job) n to c.free_bank.result can was c.requires.verified is in
     let as_called = subst (λ (o : List ℕ). IsWritten s (tagged s (tag_with (job_in (store_of node.server)) o)) (part_in (store_of node.server)) (note_with (node_note node.note) (Some (applied_note (note_job c.args.job)))) n.durable (applied_with n to n.durable.job).next.durable)
-        (sym c.node_note_octets.ensures) written in
+    (sym c.node_note_octets.ensures) written in
     (record_ran g.F.Flash.seen c.runs.ensures node _ n (applied_with n to n.durable.job) s _ _ _ h.shows.fresh
     (applied_work s (part_in (store_of node.server)) (node_note node.note) (note_job c.args.job) n to c.free_bank.result can was) as_called)
     (ap (option_map part_job) c.in-Ok.ensures.job) refl (c.in-Ok.ensures.runs s h.holds)
@@ -87,6 +87,6 @@ returns-in-Err-clause-runs g c to n h is flash =
     } in
     let written = applied_written c.written_in_a_store.ensures.applied s (part_in (store_of node.server)) (node_note node.note) (note_job c.args.job) n to c.free_bank.result can was c.requires.verified is in
     let as_called = subst (λ (o : List ℕ). IsWritten s (tagged s (tag_with (job_in (store_of node.server)) o)) (part_in (store_of node.server)) (note_with (node_note node.note) (Some (applied_note (note_job c.args.job)))) n.durable (applied_with n to n.durable.job).next.durable)
-        (sym c.node_note_octets.ensures) written in
+    (sym c.node_note_octets.ensures) written in
     record_broke g.F.Flash.seen c.runs.ensures (place_of node.server) (place_of c.commit.new.self) n (applied_with n to n.durable.job) s _ _ _ h.shows.fresh
     (applied_work s (part_in (store_of node.server)) (node_note node.note) (note_job c.args.job) n to c.free_bank.result can was) as_called (c.in-Err.ensures.runs s h.holds flash)
