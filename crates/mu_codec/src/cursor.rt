@@ -1,7 +1,7 @@
 ghost use Rattle.std.specs.Prelude.{◌≡◌, ◌≤◌, ◌<◌, ◌+◌, OnOk, OnErr, IfOk, ◌^◌, [], length, slice_index};
 ghost use Rattle.byteorder.specs.Endian.{little_number};
-ghost use Rattle.mu_model_wire.specs.Patterns.{pattern_length, pattern_number, follows};
-ghost use Rattle.mu_model_wire.specs.Reading.{Gives, Leaves, LeavesBy, after, word_at, octets_at, number_at, zero_or_number_at, pattern_at, opcode_at, counted_at, rest_at, nothing_left};
+ghost use Rattle.mu_model_wire.specs.Limits.{most_octets};
+ghost use Rattle.mu_model_wire.specs.Reading.{Gives, Leaves, LeavesBy, after, word_at, octets_at, number_at, zero_or_number_at, opcode_at, counted_at, rest_at, nothing_left};
 
 use byteorder::{ByteOrder, LittleEndian};
 use mu_model_wire::{Refusal, Why};
@@ -18,24 +18,14 @@ pub struct Cursor<'a> {
 
 impl<'a> Model for Cursor<'a> {
     ghost use Rattle.std.specs.Prelude.{◌+◌, ◌≤◌, length};
+    ghost use Rattle.mu_model_wire.specs.Limits.{most_octets};
     ghost use Rattle.mu_model_wire.specs.Reading.{Left};
 
     ghost Value = { Left };
 
     ghost view = { λ c. record { at = c.at; octets = c.left.now } };
 
-    ghost invariant = { λ c. c.at + length c.left.now ≤ 380 };
-}
-
-fn pattern_length(first: u8) -> u16
-    ensures { result ≡ pattern_length first }
-{
-    match first {
-        0..=0x7F => 1,
-        0xC2..=0xDF => 2,
-        0xE0..=0xEF => 3,
-        _ => 0,
-    }
+    ghost invariant = { λ c. c.at + length c.left.now ≤ most_octets };
 }
 
 fn five_octets(octets: &[u8]) -> u64
@@ -46,33 +36,10 @@ fn five_octets(octets: &[u8]) -> u64
     LittleEndian::read_uint(octets, 5)
 }
 
-fn follows(octet: u8) -> bool
-    ensures { result ≡ follows octet }
-{
-    octet >= 0x80 && octet <= 0xBF
-}
-
-fn pattern_number(octets: &[u8]) -> Option<u16>
-    requires two { length octets.now ≡ 2 → 0xC2 ≤ slice_index octets.now 0 }
-    requires three { length octets.now ≡ 3 → 0xE0 ≤ slice_index octets.now 0 }
-    requires three_most { length octets.now ≡ 3 → slice_index octets.now 0 ≤ 0xEF }
-    ensures { result ≡ pattern_number octets.now }
-{
-    match octets {
-        [a] => Some(*a as u16),
-        [a, b] if follows(*b) => Some((*a as u16 - 0xC0) * 64 + (*b as u16 - 0x80)),
-        [a, b, c] if follows(*b) && follows(*c) => {
-            let number = (*a as u16 - 0xE0) * 4096 + (*b as u16 - 0x80) * 64 + (*c as u16 - 0x80);
-            if number >= 0x800 { Some(number) } else { None }
-        }
-        _ => None,
-    }
-}
-
 impl<'a> Cursor<'a> {
     /// A cursor before the first of the octets, which are at most 380.
     pub fn new(bytes: &'a [u8]) -> Cursor<'a>
-        requires { length bytes.now ≤ 380 }
+        requires { length bytes.now ≤ most_octets }
         ensures { result ≡ record { at = 0; octets = bytes.now } }
     {
         Cursor { left: bytes, at: 0 }
@@ -81,7 +48,7 @@ impl<'a> Cursor<'a> {
     /// How many octets were read: the place of the first that is left.
     pub fn place(&self) -> u16
         ensures place { result ≡ self.now.at }
-        ensures most { result + length self.now.octets ≤ 380 }
+        ensures most { result + length self.now.octets ≤ most_octets }
     {
         self.at
     }
@@ -336,28 +303,6 @@ impl<'a> Cursor<'a> {
         let second = self.left[1];
         self.skip(2);
         Ok(first as u16 * 256 + second as u16)
-    }
-
-    /// A number pattern. `Short` where its octets lack, `Value` where they are no shortest pattern.
-    #[tactic(auto, unfolding(mu_model_wire::specs::Reading::pattern_at, mu_model_wire::specs::Reading::word_at, mu_model_wire::specs::Reading::octets_at))]
-    pub fn pattern(&mut self) -> Result<u16, Refusal>
-        ensures reads { Leaves result (pattern_at self.old) self.old self.new }
-        ensures taken { OnOk result (length self.new.octets < length self.old.octets) }
-    {
-        let short = self.refuse(Why::Short);
-        let wrong = self.refuse(Why::Value);
-        let Some(first) = self.left.first() else {
-            return Err(short);
-        };
-        let count = pattern_length(*first);
-        if self.left() < count {
-            return Err(short);
-        }
-        let Some(number) = pattern_number(&self.left[..count as usize]) else {
-            return Err(wrong);
-        };
-        self.skip(count);
-        Ok(number)
     }
 
     /// The refusal at this place.

@@ -9,5 +9,5 @@ mod put;
 pub use addresses::{is_group, is_unicast};
 pub use cursor::Cursor;
 pub use mu_model_wire::{Refusal, Why};
-pub use packet::{Outbox, Packet, Payload};
-pub use put::{put_octets, put_pattern, put_u8, put_u16, put_u32, put_u40, put_u64};
+pub use packet::{MOST_OCTETS, Outbox, Packet, Payload};
+pub use put::{put_octets, put_u8, put_u16, put_u32, put_u40, put_u64};

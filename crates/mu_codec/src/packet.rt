@@ -1,7 +1,10 @@
 use arrayvec::ArrayVec;
 
+/// The most octets of a message (Mesh Protocol, Upper Transport: 32 segments of 12 octets without a TransMIC of 4).
+pub const MOST_OCTETS: usize = 380;
+
 /// The octets of a message: its opcode and its fields.
-pub type Payload = ArrayVec<u8, 380>;
+pub type Payload = ArrayVec<u8, MOST_OCTETS>;
 
 /// A message on its way between two members.
 #[derive(Drop, Clone, Debug, Default, PartialEq, Eq)]

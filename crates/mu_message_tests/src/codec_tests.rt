@@ -1,6 +1,6 @@
 use mu_codec::{
-    Cursor, Outbox, Packet, Payload, Refusal, Why, put_octets, put_pattern, put_u8, put_u16,
-    put_u32, put_u40, put_u64,
+    Cursor, Outbox, Packet, Payload, Refusal, Why, put_octets, put_u8, put_u16, put_u32, put_u40,
+    put_u64,
 };
 use std::test::Fail;
 
@@ -87,28 +87,6 @@ fn opcodes_have_one_octet_or_two(rt: HostRuntime) {
 }
 
 #[test]
-fn patterns_are_the_shortest(rt: HostRuntime) {
-    for (octets, want) in [
-        ([].as_slice(), Err(refusal(0, Why::Short))),
-        ([0x7F].as_slice(), Ok(0x7F)),
-        ([0x80, 0x80].as_slice(), Err(refusal(0, Why::Value))),
-        ([0xC1, 0xBF].as_slice(), Err(refusal(0, Why::Value))),
-        ([0xC2, 0x80].as_slice(), Ok(0x80)),
-        ([0xC2].as_slice(), Err(refusal(0, Why::Short))),
-        ([0xDF, 0xBF].as_slice(), Ok(0x7FF)),
-        ([0xDF, 0xC0].as_slice(), Err(refusal(0, Why::Value))),
-        ([0xE0, 0x9F, 0xBF].as_slice(), Err(refusal(0, Why::Value))),
-        ([0xE0, 0xA0, 0x80].as_slice(), Ok(0x800)),
-        ([0xEF, 0xBF, 0xBF].as_slice(), Ok(0xFFFF)),
-        ([0xEF, 0xBF].as_slice(), Err(refusal(0, Why::Short))),
-        ([0xF0, 0x80, 0x80].as_slice(), Err(refusal(0, Why::Value))),
-    ] {
-        let mut cursor = Cursor::new(octets);
-        assert_eq!(rt; cursor.pattern(), want, "at {octets:?}");
-    }
-}
-
-#[test]
 fn what_is_put_stands_lowest_octet_first(rt: HostRuntime) -> Result<(), Fail> {
     let mut payload = Payload::new();
     put_u8(&mut payload, 0x01);
@@ -121,18 +99,6 @@ fn what_is_put_stands_lowest_octet_first(rt: HostRuntime) -> Result<(), Fail> {
         payload.as_slice(),
         [
             1, 2, 3, 4, 5, 6, 7, 8, 9, 10, 11, 12, 13, 14, 15, 16, 17, 18, 19, 20, 21, 22
-        ]
-        .as_slice()
-    );
-    let mut list = Payload::new();
-    for number in [0x7F, 0x80, 0x7FF, 0x800, 0xFFFF] {
-        assert!(rt; list.len() < 300);
-        put_pattern(&mut list, number);
-    }
-    assert_eq!(rt;
-        list.as_slice(),
-        [
-            0x7F, 0xC2, 0x80, 0xDF, 0xBF, 0xE0, 0xA0, 0x80, 0xEF, 0xBF, 0xBF
         ]
         .as_slice()
     );
