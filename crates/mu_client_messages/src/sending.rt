@@ -3,6 +3,7 @@ ghost use Rattle.std.specs.Prelude.{◌≡◌, ◌+◌, ◌<◌, ◌≤◌, ◌+
 ghost use Rattle.arrayvec.specs.ArrayVec.{array_vec_len};
 ghost use Rattle.mu_codec.specs.View.{packet_of};
 ghost use Rattle.mu_model_client.specs.Packets.{request_packet};
+ghost use Rattle.mu_model_client.specs.Going.{most_packets};
 ghost use Rattle.mu_told.specs.Told.{IsSendable};
 ghost use Rattle.mu_rounds.specs.Sents.{sent_of, sents_of, HasOctets, HaveOctets};
 ghost use Rattle.mu_client_messages.specs.Messages.{HasMode};
@@ -32,7 +33,7 @@ pub fn send_all(sending: &Sending, purpose: &Purpose, sents: &[Sent], out: &mut 
     requires range { IsSendable sending.now }
     requires mode { HasMode sending.now }
     requires some { HaveOctets sents.now }
-    requires few { length sents.now ≤ 16 }
+    requires few { length sents.now ≤ most_packets }
     requires empty { out.old.items ≡ [] }
     ensures { map packet_of out.new.items ≡ map (request_packet sending.now.from) (sents_of sending.now purpose.now sents.now) }
 {

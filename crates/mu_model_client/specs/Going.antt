@@ -123,6 +123,7 @@ abbrev pub silent_after : Step → Receiver → ℕ
 silent_after (Pull b) r = pull_silent r r.heard
 silent_after step r = r.silent + 1
 
+-- silent rounds that drop
 abbrev pub most_silent : ℕ
 most_silent = 5
 

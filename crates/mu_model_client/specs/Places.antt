@@ -2,7 +2,7 @@
 use Rattle.std.specs.Prelude.{ℕ, ◌≢◌, ◌<◌, List, [], ◌∷◌, ⊤}
 use Rattle.std.specs.List.{AllByRecursion}
 use Rattle.mu_model_client.specs.declared.Sending.{Sending}
-use Rattle.mu_model_client.specs.Client.{Step, Block, Chunks, Pull, Get, block_total}
+use Rattle.mu_model_client.specs.Client.{Step, Block, Chunks, Pull, Get, Place, Before, At, block_total}
 
 -- no address stands twice
 abbrev pub NoneTwice : List ℕ → Type 0
@@ -22,3 +22,9 @@ StepFits p (Chunks b) = b < block_total p
 StepFits p (Pull b) = b < block_total p
 StepFits p (Get b) = b < block_total p
 StepFits p _ = Unit {0}
+
+-- and so is the place of a client
+abbrev pub PlaceFits : Sending → Place → Type 0
+PlaceFits p (Before step) = StepFits p step
+PlaceFits p (At step) = StepFits p step
+PlaceFits p _ = Unit {0}

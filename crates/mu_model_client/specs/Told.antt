@@ -141,11 +141,15 @@ abbrev pub part_told : ℕ → ℕ → Receiver → List ℕ → Receiver
 part_told n b r [] = answered (with_chunks b (no_number n) (hears r))
 part_told n b r (k ∷ ks) = wants n (k ∷ ks) (hears r)
 
--- the first 16 missing chunks are wanted
+-- chunks that a pulling receiver wants at once at most
+abbrev pub most_wanted : ℕ
+most_wanted = 16
+
+-- the first missing chunks are wanted
 abbrev pub pull_told : ℕ → Receiver → Option (List Bool) → Receiver
 pull_told b r None = r
 pull_told b r (Some chunks) =
-    if has_some chunks then wants (length chunks) (take 16 (members chunks)) (with_chunks b chunks (hears r))
+    if has_some chunks then wants (length chunks) (take most_wanted (members chunks)) (with_chunks b chunks (hears r))
     else answered (with_chunks b chunks (hears r))
 
 abbrev pub on_pull : Sending → ℕ → Receiver → BlobAnswer → Receiver
@@ -156,9 +160,13 @@ on_pull p b r _ = r
 
 -- ---- 7 get: a Block Status of this block
 
+-- fruitless answers in a row that drop
+abbrev pub most_barren : ℕ
+most_barren = 5
+
 -- an answer that misses no fewer chunks than before is fruitless; the fifth one in a row drops
 abbrev pub with_barren : ℕ → Receiver → Receiver
-with_barren barren r = if nat_le 5 barren then dropped Barren (record r { barren = barren }) else record r { barren = barren }
+with_barren barren r = if nat_le most_barren barren then dropped Barren (record r { barren = barren }) else record r { barren = barren }
 
 abbrev pub barren_after : Receiver → List Bool → ℕ
 barren_after r chunks = if nat_le (size_of r.chunks) (size_of chunks) then r.barren + 1 else 0

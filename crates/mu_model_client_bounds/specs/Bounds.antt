@@ -1,7 +1,7 @@
 -- The numbers and sets that a client keeps, within their bounds.
 use Rattle.std.specs.Prelude.{ℕ, ◌≡◌, ◌≤◌, ◌<◌, ◌⊎◌, Bool, true, List, [], length}
 use Rattle.std.specs.List.{AllByRecursion}
-pub use Rattle.mu_model_client.specs.Places.{StepFits}
+pub use Rattle.mu_model_client.specs.Places.{StepFits, PlaceFits}
 use Rattle.mu_model_client.specs.declared.Sending.{Sending}
 use Rattle.mu_model_client.specs.declared.Plan.{Plan}
 use Rattle.mu_model_client.specs.declared.Stage.{Stage}
@@ -9,16 +9,10 @@ use Rattle.mu_model_client.specs.Answers.{Answer}
 use Rattle.mu_model_client.specs.Rows.{Row}
 use Rattle.mu_model_client.specs.Client.{Step, Block, Chunks, Pull, Get, Receiver, is_active, Place, Before, At, Verified, Client, block_total, chunk_total}
 use Rattle.mu_model_client.specs.Begin.{start, start_blob, resume, take_apply, take_cancel}
-use Rattle.mu_model_client.specs.Told.{told}
+use Rattle.mu_model_client.specs.Told.{told, most_barren}
 use Rattle.mu_model_client.specs.Due.{due}
+use Rattle.mu_model_client.specs.Going.{most_silent}
 use Rattle.mu_model_client_laws.specs.Laws.{IsSound}
-
--- ---- blocks
-
-abbrev pub PlaceFits : Sending → Place → Type 0
-PlaceFits p (Before step) = StepFits p step
-PlaceFits p (At step) = StepFits p step
-PlaceFits p _ = Unit {0}
 
 -- ---- sets
 
@@ -47,9 +41,9 @@ WantsAt p place set = HasChunks p set
 -- ---- clients
 
 pub record IsWithin (p : Sending) (place : Place) (r : Receiver) : Type 0 where
-  pub silent : r.silent ≤ 5
-  pub barren : r.barren ≤ 5
-  pub few_barren : is_active r ≡ true → r.barren < 5
+  pub silent : r.silent ≤ most_silent
+  pub barren : r.barren ≤ most_barren
+  pub few_barren : is_active r ≡ true → r.barren < most_barren
   pub blocks : HasLength (block_total p) r.blocks
   pub chunks : HasChunks p r.chunks
   pub wanted : WantsAt p place r.wanted

@@ -1,5 +1,6 @@
 -- Chunks that are read.
 use Rattle.std.specs.Prelude.{ℕ, ◌≡◌, ◌*◌, ◌+◌, ◌≤◌, ◌<◌, ◌^◌, length, IfSome}
+use Rattle.mu_model_wire.specs.Limits.{most_chunk}
 use Rattle.mu_model_client.specs.declared.Sending.{Sending}
 use Rattle.mu_receivers.specs.Image.{Image}
 
@@ -9,7 +10,7 @@ pub record CanRead (p : Sending) (image : Image) : Type 0 where
   pub long : IfSome image.octets (λ octets. length octets ≡ p.size)
   pub most : p.size ≤ 2 ^ 20
   pub log : p.log ≤ 14
-  pub chunk : p.chunk ≤ 376
+  pub chunk : p.chunk ≤ most_chunk
   pub some : 1 ≤ p.chunk
 
 -- the chunk begins in the image and in its block

@@ -4,7 +4,8 @@ use Rattle.mu_model_wire.specs.Reports.{has}
 use Rattle.mu_model_client.specs.Client.{Purpose, Step, Chunks, Pull, Receiver, stands_active}
 use Rattle.mu_model_client.specs.declared.Sending.{Sending}
 use Rattle.mu_model_client.specs.Lists.{step_message, again_message, said_if, lacks_chunk}
-use Rattle.mu_model_client.specs.Going.{begun, round_counted, unheard, unwanted}
+use Rattle.mu_model_client.specs.Told.{most_barren}
+use Rattle.mu_model_client.specs.Going.{begun, round_counted, most_silent, unheard, unwanted}
 use Rattle.mu_receivers.specs.Receivers.{receiver_of, before}
 use Rattle.mu_receivers.specs.Messages.{listed}
 use Rattle.mu_receivers.specs.declared.slot.Slot.{Slot}
@@ -77,8 +78,8 @@ pub record IsAsked (which : Receiver → List Bool) (old new : Slot) : Type 0 wh
 
 -- counters that a round or an answer may still raise
 pub record IsFew (s : Slot) : Type 0 where
-  pub silent : s.pending ≡ true → s.silent < 5
-  pub barren : stands_active s.standing ≡ true → s.barren < 5
+  pub silent : s.pending ≡ true → s.silent < most_silent
+  pub barren : stands_active s.standing ≡ true → s.barren < most_barren
 
 abbrev pub AreFew : List Slot → Type 0
 AreFew slots = (k : ℕ) (d : Slot) → k < length slots → IsFew (slice_index_or slots k d)

@@ -3,11 +3,14 @@ ghost use Rattle.std.specs.Prelude.{[], ◌≡◌, ℕ, ◌≤◌, ◌<◌, ◌+
 ghost use Rattle.std.specs.Option.{MatchOption};
 ghost use Rattle.arrayvec.specs.ArrayVec.{array_vec_len};
 ghost use Rattle.mu_model_wire.specs.Reports.{has};
-ghost use Rattle.mu_model_client.specs.Going.{is_empty};
+ghost use Rattle.mu_model_client.specs.Going.{is_empty, most_packets};
 ghost use Rattle.mu_receivers.specs.Chunks.{AreBelow, asking, line, items_of, rest};
 
 use crate::slot::Slot;
 use arrayvec::ArrayVec;
+
+/// Packets that a time event of a client sends at most (this profile).
+pub const MOST_PACKETS: usize = 16;
 
 /// A chunk and where it goes.
 #[derive(Clone, Copy, Debug, Default, PartialEq, Eq)]
@@ -23,15 +26,15 @@ fn go_along(
     b: u16,
     k: u16,
     from: usize,
-    spots: &mut ArrayVec<Spot, 16>,
+    spots: &mut ArrayVec<Spot, MOST_PACKETS>,
 ) -> usize
     requires within { from ≤ length slots.now }
-    requires few { length spots.old.items ≤ 16 }
-    ensures few { length spots.new.items ≤ 16 }
+    requires few { length spots.old.items ≤ most_packets }
+    ensures few { length spots.new.items ≤ most_packets }
     ensures below { (m : ℕ) → k < m → AreBelow m spots.old.items → AreBelow m spots.new.items }
     ensures most { result ≤ length slots.now }
     ensures line { items_of b spots.new.items ++ line group b k (drop result slots.now) ≡ items_of b spots.old.items ++ line group b k (drop from slots.now) }
-    ensures full { result < length slots.now → array_vec_len spots.new ≡ 16 }
+    ensures full { result < length slots.now → array_vec_len spots.new ≡ most_packets }
     ensures some { result < length slots.now → is_empty (line group b k (drop result slots.now)) ≡ false }
 {
     let mut i = from;
@@ -98,18 +101,18 @@ pub struct Cursor {
 /// Chunks that are to be sent now, and where the list goes on, if it does.
 #[derive(Drop)]
 pub struct Spots {
-    pub spots: ArrayVec<Spot, 16>,
+    pub spots: ArrayVec<Spot, MOST_PACKETS>,
     pub next: Option<Cursor>,
 }
 
-/// The next 16 chunks of a list from a place on, or all, and the place behind them where more are left.
+/// The next chunks of a list, as many as a time event sends, from a place on, or all, and the place behind them where more are left.
 pub fn spots_from(slots: &[Slot], group: u16, b: u16, n: u16, from: Cursor) -> Spots
     requires few { length slots.now ≤ 128 }
     requires within { from.receiver ≤ length slots.now }
     ensures all { MatchOption result.next (items_of b result.spots.items ≡ rest group b n slots.now from.chunk from.receiver) (λ next. items_of b result.spots.items ++ rest group b n slots.now next.chunk next.receiver ≡ rest group b n slots.now from.chunk from.receiver) }
     ensures more { IfSome result.next (λ next. is_empty (rest group b n slots.now next.chunk next.receiver) ≡ false) }
-    ensures full { IfSome result.next (λ next. length result.spots.items ≡ 16) }
-    ensures few { length result.spots.items ≤ 16 }
+    ensures full { IfSome result.next (λ next. length result.spots.items ≡ most_packets) }
+    ensures few { length result.spots.items ≤ most_packets }
     ensures below { AreBelow n result.spots.items }
     ensures within { IfSome result.next (λ next. next.receiver ≤ length slots.now) }
 {

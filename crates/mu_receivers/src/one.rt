@@ -3,7 +3,7 @@ ghost use Rattle.std.specs.Prelude.{◌≡◌, ◌+◌, ◌<◌, ℕ};
 ghost use Rattle.mu_model_client.specs.Client.{step_number};
 ghost use Rattle.mu_model_client.specs.Told.{answered, dropped};
 ghost use Rattle.mu_model_client.specs.Lists.{missing_of, wanted_of};
-ghost use Rattle.mu_model_client.specs.Going.{silent_after, fell_silent};
+ghost use Rattle.mu_model_client.specs.Going.{silent_after, most_silent, fell_silent};
 ghost use Rattle.mu_receivers.specs.Receivers.{receiver_of};
 ghost use Rattle.mu_receivers.specs.Slots.{KeepsList, KeepsWas, IsKept, IsBegun, IsCounted, IsTakenBack, IsRenewed, IsUnwanting, IsAsked, IsFew, by_message, passes_over};
 
@@ -82,9 +82,12 @@ pub(crate) fn begin_one(slot: &mut Slot, step: Step)
     slot.listed = is_in && is_by_message(step);
 }
 
+/// Silent rounds that drop a receiver (this profile).
+pub const MOST_SILENT: u8 = 5;
+
 // Silent rounds, with this one.
 fn silent_now(slot: &Slot, step: Step) -> u8
-    requires { slot.now.silent < 5 }
+    requires { slot.now.silent < most_silent }
     ensures { result ≡ silent_after step (receiver_of slot.now) }
 {
     match step {
@@ -118,7 +121,7 @@ pub(crate) fn count_one(slot: &mut Slot, step: Step)
 {
     if slot.pending {
         slot.silent = silent_now(slot, step);
-        if slot.silent >= 5 {
+        if slot.silent >= MOST_SILENT {
             fall_silent(slot, step);
         }
     }

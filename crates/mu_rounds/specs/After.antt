@@ -1,8 +1,9 @@
 -- What comes after a step, and the ranges of its block.
 use Rattle.std.specs.Prelude.{ℕ, Bool, true, false, Option, Some, None}
 use Rattle.mu_model_client.specs.declared.Sending.{Sending}
-use Rattle.mu_model_client.specs.Client.{Step, Chunks, Pull, Place, Before, At}
+use Rattle.mu_model_client.specs.Client.{Step, Chunks, Pull, Place, At}
 use Rattle.mu_model_client.specs.Going.{Next, Go, Rests, Ends}
+pub use Rattle.mu_model_client.specs.Places.{PlaceFits}
 use Rattle.mu_told.specs.Told.{StepFits}
 use Rattle.mu_rounds.specs.declared.after.Next.{Next as NextHere}
 use Rattle.mu_rounds.specs.declared.after.Next.TheVariants as here
@@ -15,11 +16,6 @@ next_of (here.Ends part) = Ends part
 abbrev pub NextFits : Sending → NextHere → Type 0
 NextFits p (here.Go step) = StepFits p step
 NextFits p _ = Unit {0}
-
-abbrev pub PlaceFits : Sending → Place → Type 0
-PlaceFits p (Before step) = StepFits p step
-PlaceFits p (At step) = StepFits p step
-PlaceFits p _ = Unit {0}
 
 -- the block whose chunks a step sends
 abbrev pub chunk_block : Step → Option ℕ

@@ -3,7 +3,7 @@ use Rattle.std.specs.Prelude.{ℕ, ◌≡◌, ◌≤◌, ◌<◌, ◌++◌, Bool
 use Rattle.mu_model_client.specs.declared.Sending.{Sending}
 use Rattle.mu_model_client.specs.Client.{Purpose, Step, Chunks, Pull, Get, Place, At, Verified, Ended, Receiver, Item, Client, is_active, block_total, chunk_total}
 use Rattle.mu_model_client.specs.Lists.{sent_for}
-use Rattle.mu_model_client.specs.Going.{Going, Next, Go, sends, is_empty}
+use Rattle.mu_model_client.specs.Going.{Going, Next, Go, most_packets, sends, is_empty}
 use Rattle.mu_receivers.specs.Receivers.{receiver_of, receivers_of}
 use Rattle.mu_receivers.specs.Messages.{listed, messages_left}
 use Rattle.mu_receivers.specs.Chunks.{rest}
@@ -116,6 +116,6 @@ pub record IsSaid (old new : Slot) : Type 0 where
 
 -- a receiver's message is sent where there is room
 pub record SaysOne (p : Sending) (purpose : Purpose) (step : Step) (old new : Slot) (before after : List Sent) : Type 0 where
-  pub sent : (image : List ℕ) → length before < 16 → sents_of p purpose after ≡ sents_of p purpose before ++ map (sent_for p image) (listed p purpose step old)
-  pub left : length before < 16 → listed p purpose step new ≡ []
-  pub full : 16 ≤ length before → (after ≡ before) × (listed p purpose step new ≡ listed p purpose step old)
+  pub sent : (image : List ℕ) → length before < most_packets → sents_of p purpose after ≡ sents_of p purpose before ++ map (sent_for p image) (listed p purpose step old)
+  pub left : length before < most_packets → listed p purpose step new ≡ []
+  pub full : most_packets ≤ length before → (after ≡ before) × (listed p purpose step new ≡ listed p purpose step old)

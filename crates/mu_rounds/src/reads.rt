@@ -1,6 +1,7 @@
 // The chunks of a list, read before anything is written.
 ghost use Rattle.std.specs.Prelude.{◌≡◌, ◌≤◌, IsTrue, IfSome, IfOk, OnErr, All, length, map};
 ghost use Rattle.mu_model_flash.specs.Cause.{HasCause};
+ghost use Rattle.mu_model_client.specs.Going.{most_packets};
 ghost use Rattle.mu_model_client.specs.Lists.{sent_for};
 ghost use Rattle.mu_receivers.specs.Image.{Image, IsSame};
 ghost use Rattle.mu_receivers.specs.Reads.{CanRead, Within};
@@ -12,7 +13,7 @@ use crate::rounds::Rounds;
 use crate::said::{Said, Sent};
 use arrayvec::ArrayVec;
 use mu_model_flash::Failed;
-use mu_receivers::{ImageBytes, Spot, read_chunk};
+use mu_receivers::{ImageBytes, MOST_PACKETS, Spot, read_chunk};
 
 fn read_spot<I: ImageBytes>(
     image: &mut I,
@@ -45,8 +46,8 @@ pub fn read_spots<I: ImageBytes>(
     client: &Rounds,
     b: u16,
     spots: &[Spot],
-) -> Result<ArrayVec<Sent, 16>, Failed>
-    requires few { length spots.now ≤ 16 }
+) -> Result<ArrayVec<Sent, MOST_PACKETS>, Failed>
+    requires few { length spots.now ≤ most_packets }
     requires can { CanRead client.now.sending (I.image image.old) }
     requires within { All (λ (spot : Spot). Within client.now.sending b spot.chunk) spots.now }
     ensures gives { IfOk result (λ sents. IfSome (I.image image.old).octets (λ octets. sents_of client.now.sending client.now.purpose sents.items ≡ map (sent_for client.now.sending octets) (items_of b spots.now))) }

@@ -18,7 +18,7 @@ use crate::sending::send_messages;
 use arrayvec::ArrayVec;
 use mu_model_client::{Place, Step};
 use mu_model_flash::Failed;
-use mu_receivers::{Cursor, ImageBytes, keep, spots_from, take_back};
+use mu_receivers::{Cursor, ImageBytes, MOST_PACKETS, keep, spots_from, take_back};
 
 /// Where a client stood before a time event.
 #[derive(Clone, Copy, Debug, PartialEq, Eq)]
@@ -74,7 +74,7 @@ impl Rounds {
     }
 
     // Sends the first messages of the step's list.
-    fn send_of_step(&mut self, step: Step, out: &mut ArrayVec<Sent, 16>)
+    fn send_of_step(&mut self, step: Step, out: &mut ArrayVec<Sent, MOST_PACKETS>)
         requires shape { HasShape self.old }
         requires at { self.old.place ≡ At step }
         requires none { self.old.left ≡ None }
@@ -87,7 +87,7 @@ impl Rounds {
     }
 
     // Sends the first messages of the list.
-    fn send_messages_left(&mut self, out: &mut ArrayVec<Sent, 16>)
+    fn send_messages_left(&mut self, out: &mut ArrayVec<Sent, MOST_PACKETS>)
         requires shape { HasShape self.old }
         requires none { self.old.left ≡ None }
         requires empty { out.old.items ≡ [] }
@@ -105,7 +105,7 @@ impl Rounds {
         &mut self,
         image: &mut I,
         left: Left,
-        out: &mut ArrayVec<Sent, 16>,
+        out: &mut ArrayVec<Sent, MOST_PACKETS>,
     ) -> Result<(), Failed>
         requires shape { HasShape self.old }
         requires left { self.old.left ≡ Some left }
@@ -137,7 +137,7 @@ impl Rounds {
     fn send<I: ImageBytes>(
         &mut self,
         image: &mut I,
-        out: &mut ArrayVec<Sent, 16>,
+        out: &mut ArrayVec<Sent, MOST_PACKETS>,
     ) -> Result<(), Failed>
         requires shape { HasShape self.old }
         requires size { HasSize self.old.sending (I.image image.old) }
@@ -167,7 +167,7 @@ impl Rounds {
         &mut self,
         image: &mut I,
         now: u64,
-        out: &mut ArrayVec<Sent, 16>,
+        out: &mut ArrayVec<Sent, MOST_PACKETS>,
     ) -> Result<(), Failed>
         requires shape { HasShape self.old }
         requires size { HasSize self.old.sending (I.image image.old) }

@@ -5,7 +5,7 @@ ghost use Rattle.mu_model_image.specs.Meta.{firmware_id, own_company};
 ghost use Rattle.mu_model_client.specs.Rows.{row_after};
 ghost use Rattle.mu_model_client.specs.Answers.{FromUpdate};
 ghost use Rattle.mu_model_client.specs.Client.{Get, Pull, chunk_total, at_moment};
-ghost use Rattle.mu_model_client.specs.Told.{is_present, on_check, on_start, on_verify, on_apply, on_cancel, step_told, row_counted, row_told, place_told, told};
+ghost use Rattle.mu_model_client.specs.Told.{is_present, most_barren, on_check, on_start, on_verify, on_apply, on_cancel, step_told, row_counted, row_told, place_told, told};
 ghost use Rattle.mu_receivers.specs.Receivers.{receiver_of};
 ghost use Rattle.mu_receivers.specs.Slots.{Each, IsFew};
 ghost use Rattle.mu_receivers.specs.declared.slot.Slot.{Slot};
@@ -179,7 +179,7 @@ fn on_answer(slot: &mut Slot, sending: &Sending, step: Step, heard: &Heard)
     requires range { IsSendable sending.now }
     requires fits { StepFits sending.now step }
     requires short { HeardShort heard.now }
-    requires few { (b : ℕ) → step ≡ Get b → slot.old.barren < 5 }
+    requires few { (b : ℕ) → step ≡ Get b → slot.old.barren < most_barren }
     requires wanted { (b : ℕ) → step ≡ Pull b → WantsOf (chunk_total sending.now b) (receiver_of slot.old) }
     ensures { (count : ℕ) (more : List (List ℕ)) → IsTold (λ r. step_told sending.now (answer_of heard.now count more) r step) slot.old slot.new }
 {

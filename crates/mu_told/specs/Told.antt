@@ -4,6 +4,8 @@ use Rattle.std.specs.Borrow.{Bor}
 use Rattle.std.specs.Option.{option_map}
 pub use Rattle.mu_model_client.specs.Places.{StepFits}
 use Rattle.mu_model_node.specs.UpdateMessages.{ShownJob}
+use Rattle.mu_model_wire.specs.Limits.{most_chunk}
+use Rattle.mu_model_image.specs.Sizes.{most_image}
 use Rattle.mu_model_client.specs.Answers.{Limits}
 use Rattle.mu_model_client.specs.Client.{Receiver, Step, Block, Chunks, Pull, Get, block_total}
 use Rattle.mu_model_client.specs.declared.Sending.{Sending}
@@ -26,11 +28,11 @@ WantsOf n r = 0 < length r.wanted → length r.wanted ≡ n
 -- the ranges of what is sent (this profile)
 pub record IsSendable (p : Sending) : Type 0 where
   pub size_least : 1 ≤ p.size
-  pub size_most : p.size ≤ 1048576
+  pub size_most : p.size ≤ most_image
   pub log_least : 12 ≤ p.log
   pub log_most : p.log ≤ 14
   pub chunk_least : 8 ≤ p.chunk
-  pub chunk_most : p.chunk ≤ 376
+  pub chunk_most : p.chunk ≤ most_chunk
 
 abbrev pub limits_of : LimitsInCode → Limits
 limits_of l = record {

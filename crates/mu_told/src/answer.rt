@@ -1,7 +1,7 @@
 // What a BLOB message tells.
 ghost use Rattle.std.specs.Prelude.{ℕ, ◌≡◌, ◌≤◌, ◌<◌, true, length};
 ghost use Rattle.mu_model_client.specs.Client.{Step, Get, Pull, block_total, chunk_total};
-ghost use Rattle.mu_model_client.specs.Told.{step_told, on_information, on_transfer, on_block, on_pull, on_get};
+ghost use Rattle.mu_model_client.specs.Told.{step_told, on_information, on_transfer, on_block, on_pull, on_get, most_barren};
 ghost use Rattle.mu_model_client.specs.Answers.{FromBlob};
 ghost use Rattle.mu_receivers.specs.Receivers.{receiver_of};
 ghost use Rattle.mu_told.specs.Told.{IsTold, IsSendable, StepFits, WantsOf};
@@ -86,7 +86,7 @@ fn on_block_answer(slot: &mut Slot, sending: &Sending, b: u16, answer: &BlobAnsw
 fn on_get_answer(slot: &mut Slot, sending: &Sending, b: u16, answer: &BlobAnswer)
     requires range { IsSendable sending.now }
     requires within { b < block_total sending.now }
-    requires few { slot.old.barren < 5 }
+    requires few { slot.old.barren < most_barren }
     ensures { IsTold (λ r. on_get sending.now b r (blob_answer_of answer.now)) slot.old slot.new }
 {
     if let BlobAnswer::Block {
@@ -123,7 +123,7 @@ pub fn on_blob_answer(slot: &mut Slot, sending: &Sending, step: Step, answer: &B
     requires range { IsSendable sending.now }
     requires fits { StepFits sending.now step }
     requires short { IsShort answer.now }
-    requires few { (b : ℕ) → step ≡ Get b → slot.old.barren < 5 }
+    requires few { (b : ℕ) → step ≡ Get b → slot.old.barren < most_barren }
     requires wanted { (b : ℕ) → step ≡ Pull b → WantsOf (chunk_total sending.now b) (receiver_of slot.old) }
     ensures { IsTold (λ r. step_told sending.now (FromBlob (blob_answer_of answer.now)) r step) slot.old slot.new }
 {

@@ -3,7 +3,7 @@ ghost use Rattle.std.specs.Prelude.{◌≡◌, ◌≤◌, ◌<◌, length, IfSom
 ghost use Rattle.mu_model_client.specs.Sets.{has_some, size_of, named_set, set_of_field};
 ghost use Rattle.mu_model_client.specs.Client.{block_total, chunk_total};
 ghost use Rattle.mu_model_client.specs.Answers.{TransferIs, BlockIs};
-ghost use Rattle.mu_model_client.specs.Told.{held_percent, with_blocks, holds_block, with_chunks, is_ours, blocks_in, chunks_in, on_transfer, on_block, on_get, with_barren, barren_after};
+ghost use Rattle.mu_model_client.specs.Told.{held_percent, with_blocks, holds_block, with_chunks, is_ours, blocks_in, chunks_in, on_transfer, on_block, on_get, most_barren, with_barren, barren_after};
 ghost use Rattle.mu_receivers.specs.Receivers.{receiver_of};
 ghost use Rattle.mu_told.specs.Told.{IsTold, IsSendable};
 
@@ -180,10 +180,13 @@ pub fn on_block(
     }
 }
 
+/// Fruitless answers in a row that drop a receiver (this profile).
+pub const MOST_BARREN: u8 = 5;
+
 // Fruitless answers, with one that misses these chunks.
 #[tactic(auto, using(crate::proofs::Named::size_is))]
 fn barren_after(slot: &Slot, chunks: &NumberSet) -> u8
-    requires { slot.now.barren < 5 }
+    requires { slot.now.barren < most_barren }
     ensures { result ≡ barren_after (receiver_of slot.now) chunks.now }
 {
     if slot.chunks.count() <= chunks.count() {
@@ -197,7 +200,7 @@ fn count_barren(slot: &mut Slot, barren: u8)
     ensures { IsTold (with_barren barren) slot.old slot.new }
 {
     slot.barren = barren;
-    if barren >= 5 {
+    if barren >= MOST_BARREN {
         drop_by(slot, Dropped::Barren);
     }
 }
@@ -214,7 +217,7 @@ pub fn on_get(
 )
     requires range { IsSendable sending.now }
     requires within { b < block_total sending.now }
-    requires few { slot.old.barren < 5 }
+    requires few { slot.old.barren < most_barren }
     ensures { IsTold (λ r. on_get sending.now b r (BlockIs status block size report.now)) slot.old slot.new }
 {
     if status != 0 {

@@ -4,7 +4,7 @@ ghost use Rattle.mu_model_wire.specs.Reports.{members, union};
 ghost use Rattle.mu_model_client.specs.Sets.{set_of, all_below};
 ghost use Rattle.mu_model_client.specs.Client.{block_total, chunk_total, Receiver};
 ghost use Rattle.mu_model_client.specs.Answers.{BlockIs, PartIs};
-ghost use Rattle.mu_model_client.specs.Told.{hears, on_pull};
+ghost use Rattle.mu_model_client.specs.Told.{hears, most_wanted, on_pull};
 ghost use Rattle.mu_receivers.specs.Receivers.{receiver_of};
 ghost use Rattle.mu_told.specs.Told.{IsTold, IsSendable, WantsOf};
 
@@ -31,15 +31,18 @@ fn set_of(numbers: &[u16], n: u16) -> Option<NumberSet>
     Some(set)
 }
 
-// The least 16 numbers of a set.
-fn first_sixteen(set: &NumberSet) -> NumberSet
-    ensures firsts { result ≡ set_of (length set.now) (take 16 (members set.now)) }
+/// Chunks that a pulling receiver wants at once at most (this profile).
+pub const MOST_WANTED: u8 = 16;
+
+// The least numbers of a set, as many as are wanted at once.
+fn first_wanted(set: &NumberSet) -> NumberSet
+    ensures firsts { result ≡ set_of (length set.now) (take most_wanted (members set.now)) }
     ensures bound { length result ≡ length set.now }
 {
     let mut firsts = NumberSet::new(set.bound());
     let mut at = 0;
     let mut count = 0u8;
-    while count < 16 {
+    while count < MOST_WANTED {
         let Some(number) = set.first_from(at) else {
             return firsts;
         };
@@ -120,7 +123,7 @@ pub fn on_pull_status(
         refuse_transfer(slot, Step::Pull(b), status);
     } else if let Some(chunks) = chunks_in(sending, b, block, size, report) {
         hear(slot);
-        let firsts = first_sixteen(&chunks);
+        let firsts = first_wanted(&chunks);
         let some = has_some(&chunks);
         hold_chunks(slot, b, chunks);
         if some {

@@ -1,7 +1,7 @@
 use Rattle.std.proofs.Common.{◌∙◌, ◌+◌, ◌≤◌, ◌∷◌, [], ap, sym, refl, arith, Bool, ℕ, true, length, length-append, set}
 use Rattle.mu_model_client.specs.Sets.{set_of}
 use Rattle.mu_told.proofs.Wanted.{set_none, set_more, length_is, front, front_none, front_next, sixteen_front, few_front}
-use Rattle.mu_told.proofs.pull.first_sixteen.Goals as goal
+use Rattle.mu_told.proofs.pull.first_wanted.Goals as goal
 
 pub loop-count-init : goal.loop-count-init
 loop-count-init c = record {

@@ -1,7 +1,7 @@
 use Rattle.std.proofs.Common.{◌≡◌, ◌≤◌, ◌-◌, length}
 use Rattle.mu_model_client.specs.Sets.{set_of}
 use Rattle.mu_told.proofs.Wanted.{front}
-use Rattle.mu_told.proofs.pull.first_sixteen.Given as goal
+use Rattle.mu_told.proofs.pull.first_wanted.Given as goal
 
 abbrev pub invariant-loop-count : goal.invariant-loop-count
 invariant-loop-count l = record {
