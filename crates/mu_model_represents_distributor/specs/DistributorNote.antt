@@ -3,6 +3,7 @@ use Rattle.std.specs.Prelude.{◌≡◌, ◌++◌, ◌+◌, ◌-◌, ◌*◌, �
 use Rattle.std.specs.List.{flat_map}
 use Rattle.byteorder.specs.Endian.{little_bytes}
 pub use Rattle.mu_model_distributor.specs.DistState.{receiver_octets}
+use Rattle.mu_model_wire.specs.Limits.{most_receivers}
 use Rattle.mu_model_image.specs.declared.Meta.{Meta}
 use Rattle.mu_model_image.specs.Meta.{meta_of, meta_octets}
 use Rattle.mu_model_flash.specs.Bits.{part_of}
@@ -73,11 +74,11 @@ pub record SpellsDistributor (n : DistributorNote) (octets : List ℕ) : Type 0 
   pub counter_at_8 : number_at 8 octets 8 ≡ n.counter
   pub settings_at_16 : SpellsSettings n.settings octets
   pub receivers_at_26 : slice_index octets 26 ≡ length n.receivers
-  pub few_receivers : length n.receivers ≤ 128
+  pub few_receivers : length n.receivers ≤ most_receivers
   pub upload_ttl_at_27 : slice_index octets 27 ≡ n.upload_ttl
   pub upload_metadata_at_28 : meta_of (part_of octets 28 40) ≡ n.upload_meta
   pub zero_at_68 : part_of octets 68 60 ≡ zeros 60
-  pub rows_at_128 : (k : ℕ) → k < 128 → IsRow (slice_get n.receivers k) (part_of octets (128 + 6 * k) 6)
+  pub rows_at_128 : (k : ℕ) → k < most_receivers → IsRow (slice_get n.receivers k) (part_of octets (128 + 6 * k) 6)
   pub zero_at_896 : part_of octets 896 832 ≡ zeros 832
 
 -- ---- what is written
