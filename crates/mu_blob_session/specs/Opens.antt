@@ -1,5 +1,6 @@
 -- A block that a row opens.
 use Rattle.std.specs.Prelude.{◌≡◌, ◌⊎◌, ◌≤◌, ◌<◌, ℕ, true, false, is_some, List, [], ◌∷◌, Option, Some}
+use Rattle.mu_model_wire.specs.Limits.{most_chunk}
 use Rattle.mu_model_image.specs.Pieces.{block_count, block_length}
 use Rattle.mu_model_node.specs.Slots.{missing}
 use Rattle.mu_model_node.specs.BlobMessages.{BlobReply, BlockStatus}
@@ -16,7 +17,7 @@ use Rattle.mu_blob_session.specs.Sound.{AreBegun}
 
 -- it is one of the transfer's, with such chunks; and the row doesn't unlink
 abbrev pub CanOpen : SessionChange → Type 0
-CanOpen (Opens p block size) = AreBegun p × (block < block_count p.size p.log) × (8 ≤ size) × (size ≤ 376)
+CanOpen (Opens p block size) = AreBegun p × (block < block_count p.size p.log) × (8 ≤ size) × (size ≤ most_chunk)
 CanOpen (Link Unlinks) = ⊥
 CanOpen _ = Unit {0}
 

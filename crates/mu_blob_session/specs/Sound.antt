@@ -1,6 +1,7 @@
 -- What is kept and the block that comes go together.
 use Rattle.std.specs.Prelude.{◌≡◌, ◌≤◌, ◌<◌, ℕ, Option, Some, None}
 use Rattle.mu_model_image.specs.Pieces.{block_count, block_length}
+use Rattle.mu_model_image.specs.Sizes.{most_image}
 use Rattle.mu_model_node.specs.declared.Parameters.{Parameters}
 use Rattle.mu_model_node.specs.declared.Link.{Link}
 use Rattle.mu_model_node.specs.declared.Link.TheVariants.{Running}
@@ -13,7 +14,7 @@ pub record AreBegun (p : Parameters) : Type 0 where
   pub mode_most : p.mode ≤ 2
   pub mtu_least : 20 ≤ p.mtu
   pub size_least : 1 ≤ p.size
-  pub size_most : p.size ≤ 1048576
+  pub size_most : p.size ≤ most_image
   pub log_least : 12 ≤ p.log
   pub log_most : p.log ≤ 14
 

@@ -2,6 +2,7 @@
 use Rattle.std.specs.Prelude.{ℕ, ◌≡◌, ◌≤◌, Bool, not, List, Option, Some, None, if◌then◌else◌, length, map, take}
 use Rattle.std.specs.List.{range_with_len, count_by}
 use Rattle.mu_model_wire.specs.Reports.{has}
+use Rattle.mu_model_wire.specs.Limits.{most_chunk}
 use Rattle.mu_model_image.specs.Pieces.{chunk_of, chunk_count}
 use Rattle.mu_model_node.specs.Slots.{Slots}
 use Rattle.mu_block.specs.Coming.{Coming}
@@ -27,7 +28,7 @@ pub record AreFields (chunk_size size : ℕ) (set : List Bool) (left : ℕ) (oct
   pub size_least : 1 ≤ size
   pub size_most : size ≤ 16384
   pub chunk_least : 8 ≤ chunk_size
-  pub chunk_most : chunk_size ≤ 376
+  pub chunk_most : chunk_size ≤ most_chunk
   pub count : length set ≡ chunk_count size chunk_size
   pub missing : left ≡ count_by not set
   pub room : length octets ≡ 16384

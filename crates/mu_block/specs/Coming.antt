@@ -1,5 +1,6 @@
 -- A block that comes in chunks (MshMBT: the current block of a BLOB Transfer Server).
 use Rattle.std.specs.Prelude.{ℕ, ◌≡◌, ◌≤◌, Bool, false, List, [], Option, Some, None, if◌then◌else◌, nat_lt, length}
+use Rattle.mu_model_wire.specs.Limits.{most_chunk}
 use Rattle.mu_model_image.specs.Pieces.{chunk_count, chunk_length}
 use Rattle.mu_model_node.specs.Slots.{Slots, empty, put, is_full, joined}
 use Rattle.mu_model_node.specs.BlobServer.{CurrentBlock}
@@ -52,7 +53,7 @@ pub record IsComing (c : Coming) : Type 0 where
   pub size_least : 1 ≤ c.size
   pub size_most : c.size ≤ 16384
   pub chunk_least : 8 ≤ c.block.chunk_size
-  pub chunk_most : c.block.chunk_size ≤ 376
+  pub chunk_most : c.block.chunk_size ≤ most_chunk
   pub count : length c.block.chunks ≡ chunk_count c.size c.block.chunk_size
   pub count_least : 1 ≤ length c.block.chunks
   pub count_most : length c.block.chunks ≤ 2048

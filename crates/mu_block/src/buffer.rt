@@ -2,6 +2,7 @@
 ghost use Rattle.std.specs.Prelude.{◌≡◌, ◌≤◌, ◌+◌, None, Some, length, is_none, is_some};
 ghost use Rattle.std.specs.List.{count_by};
 ghost use Rattle.std.specs.Option.{option_map, option_copied};
+ghost use Rattle.mu_model_wire.specs.Limits.{most_chunk};
 ghost use Rattle.mu_model_wire.specs.Reports.{has, complement};
 ghost use Rattle.mu_model_node.specs.Slots.{at, received, missing, held_count};
 ghost use Rattle.mu_block.specs.Coming.{opened, chunks_of, octets_of_chunk, with_chunk, is_whole, whole_of, whole_size, IsOpen};
@@ -58,7 +59,7 @@ impl BlockBuffer {
         requires size_least { 1 ≤ size }
         requires size_most { size ≤ 16384 }
         requires chunk_least { 8 ≤ chunk_size }
-        requires chunk_most { chunk_size ≤ 376 }
+        requires chunk_most { chunk_size ≤ most_chunk }
         ensures { self.new ≡ Some (opened number chunk_size size) }
     {
         let count = chunk_count(size as u32, chunk_size);
