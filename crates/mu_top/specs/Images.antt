@@ -1,11 +1,12 @@
 -- What `image` promises: the size, the version and the digest of the image that the source gives, its metadata and its Firmware ID (this profile).
-use Rattle.std.specs.Prelude.{◌≡◌, ℕ, ◌==◌, nat_lt, List, [], ◌∷◌, ◌++◌, length, codes, Option, Some, None, if◌then◌else◌}
+use Rattle.std.specs.Prelude.{◌≡◌, ℕ, List, [], ◌∷◌, ◌++◌, codes, Option, Some, None}
 use Rattle.std.specs.Fmt.{decimal}
 use Rattle.hex.specs.Hex.{encode_lower}
 use Rattle.mu_model_image.specs.Sizes.{most_image}
 use Rattle.mu_model_image.specs.Meta.{meta_octets, firmware_id, own_company, image_of}
 use Rattle.mu_model_image.specs.declared.Meta.{Meta}
 use Rattle.mu_model_script.specs.Texts.{text_line, refused_text}
+use Rattle.mu_command_line.specs.Refusals.{refusal_within}
 use Rattle.mu_top.specs.Ends.{ByNumber}
 use Rattle.mu_input.specs.Reading.{WhereTold}
 use Rattle.mu_top.specs.declared.image.ImageRead.{ImageRead}
@@ -23,12 +24,9 @@ abbrev pub meta_text : Meta → List ℕ
 meta_text meta =
     parts_text (decimal meta.size) (decimal meta.version) (encode_lower meta.digest) (encode_lower (meta_octets meta)) (encode_lower (firmware_id own_company meta))
 
--- the refusal of an image: an empty one at place 0, one that is too large at the place of its first octet past the limit. An image has no lines
+-- the refusal of an image, which has no lines
 abbrev pub image_refusal : List ℕ → Option (List ℕ)
-image_refusal octets =
-    if length octets == 0 then Some (refused_text 0 0 (codes "short"))
-    else if nat_lt most_image (length octets) then Some (refused_text 0 most_image (codes "long"))
-    else None
+image_refusal octets = refusal_within most_image octets
 
 abbrev pub text_or : Option (List ℕ) → List ℕ → List ℕ
 text_or (Some refusal) text = refusal
