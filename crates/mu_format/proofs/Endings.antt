@@ -15,7 +15,7 @@ where_told o None P Q f h = tt
 where_told o (Some after) P Q f h = (h.0, h.1, f h.0 after h.2)
 
 module _ (what : Format) (pages : ℕ) (held left : List ℕ) where
-  whole : (made : Made) → CameOf (refusal_of what pages held) left made → FormatEnds what pages held left (printed_of pages made) (status_of made)
+  whole : (made : Made) → CameOf what.kind (refusal_of what pages held) held left made → FormatEnds what pages held left (printed_of pages made) (status_of made)
   whole Whole came = (came.0, came.1, refl)
   whole Pages came = came
   whole (Short place) came = came
@@ -23,7 +23,7 @@ module _ (what : Format) (pages : ℕ) (held left : List ℕ) where
   whole Source came = refl
   whole Flash came = refl
 
-  text_is : (made : Made) → (made ≡ Source → ⊥) → (made ≡ Flash → ⊥) → CameOf (refusal_of what pages held) left made → printed_of pages made ≡ text_by pages (refusal_of what pages held)
+  text_is : (made : Made) → (made ≡ Source → ⊥) → (made ≡ Flash → ⊥) → CameOf what.kind (refusal_of what pages held) held left made → printed_of pages made ≡ text_by pages (refusal_of what pages held)
   text_is Whole source flash came = ap (text_by pages) (sym came.1)
   text_is Pages source flash came = ap (text_by pages) (sym came)
   text_is (Short place) source flash came = ap (text_by pages) (sym came)
@@ -31,7 +31,7 @@ module _ (what : Format) (pages : ℕ) (held left : List ℕ) where
   text_is Source source flash came = absurd (source refl)
   text_is Flash source flash came = absurd (flash refl)
 
-module _ (what : Format) (pages : ℕ) (made : Made) (S0 S1 K0 K1 : Option (List ℕ)) (came : WhereTold S0 S1 (λ held left. CameOf (refusal_of what pages held) left made)) where
+module _ (what : Format) (pages : ℕ) (made : Made) (S0 S1 K0 K1 : Option (List ℕ)) (came : WhereTold S0 S1 (λ held left. CameOf what.kind (refusal_of what pages held) held left made)) where
   pub told_whole : Wrote K0 K1 (printed_of pages made) → FormatTold what pages S0 S1 K0 K1 (status_of made)
   told_whole wrote = where_told S0 S1 _ _ (λ held left h. where_told K0 K1 _ _ (λ before after w. (printed_of pages made, w, whole what pages held left made h)) wrote) came
 

@@ -4,6 +4,7 @@ ghost use Rattle.mu_input.specs.Reading.{WhereTold};
 ghost use Rattle.mu_model_flash.specs.Cause.{HasCause, Rose};
 ghost use Rattle.mu_model_script.specs.Texts.{text_line};
 ghost use Rattle.mu_command_line.specs.Writing.{Wrote, WroteSome};
+ghost use Rattle.mu_format.specs.declared.making.Kind.TheVariants.{Distributor};
 ghost use Rattle.mu_format.specs.Formats.{pages_of, refusal_of, formatted_text, printed_of, FormatTold, CanEnd, EndsBy, Makes};
 
 use crate::making::{Format, Made, make};
@@ -49,7 +50,7 @@ fn write_made<K: Sink>(made: Made, pages: u32, sink: &mut K) -> Result<(), Faile
     }
 }
 
-/// Makes a flash the flash of a new node, from the image that the source gives, and writes the number of its pages to the sink. A bank has 1..256
+/// Makes a flash the flash of a new node, from the image that the source gives, or of a new distributor, and writes the number of its pages to the sink. A bank has 1..256
 /// pages. A flash with another number of pages than that of what is asked for is refused at place 0, before anything is read or written on it; an
 /// empty image at place 0, and one that is larger than a bank at the place of its first octet past that. Of a cut within it nothing is promised.
 pub fn format<F: Flash, S: Source, K: Sink>(
@@ -64,6 +65,7 @@ pub fn format<F: Flash, S: Source, K: Sink>(
     ensures can { CanEnd result.status }
     ensures makes { result.status ≡ Status.Done → Makes what (S.left source.old) (S.left source.new) (F.seen flash) (F.seen result.flash) }
     ensures pages { (F.seen flash).pages ≢ pages_of what → (result.flash ≡ flash) × (source.new ≡ source.old) × (result.status ≢ Status.Done) }
+    ensures unread { what.kind ≡ Distributor → source.new ≡ source.old }
     ensures complete { (Rose (S.faults source.old) (S.faults source.new) → ⊥) → (Rose (K.faults sink.old) (K.faults sink.new) → ⊥) → (Rose (F.seen flash).faults (F.seen result.flash).faults → ⊥)
         → WhereTold (S.left source.old) (S.left source.new) (λ held left. EndsBy (refusal_of what (F.seen flash).pages held) result.status) }
     ensures source { result.status ≡ Status.SourceFault → Rose (S.faults source.old) (S.faults source.new) }

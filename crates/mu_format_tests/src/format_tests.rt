@@ -1,4 +1,4 @@
-// A node of one image, on a flash of banks of one page.
+// A node of one image, and a distributor, on flashes of banks of one page.
 use mu_command_line::Status;
 use mu_format::{Format, Formatted, Kind, format};
 use mu_outside::{BytesSink, BytesSource, FaultyFlash, Flash, Pattern, RamFlash};
@@ -157,5 +157,30 @@ fn each_operation_of_the_flash_that_fails_ends_it(rt: HostRuntime) -> Result<(),
     }
     let flash = FaultyFlash::new(alloc, &[255; 24576], &[(7, Pattern::Old)], &[])?;
     assert!(rt; ends(alloc, flash, b"abc", NONE, Status::Done, "formatted 6\n")?);
+    Ok(())
+}
+
+#[test]
+fn a_distributor_is_made_without_an_input(rt: HostRuntime) -> Result<(), Fail> {
+    let alloc = rt.alloc();
+    let what = Format {
+        kind: Kind::Distributor,
+        pages: 1,
+        version: 7,
+    };
+    let mut source = BytesSource::new(alloc, b"abc", &[1])?;
+    let mut sink = BytesSink::new(alloc, 64, &[])?;
+    let Formatted { status, flash } = format(
+        what,
+        RamFlash::new(alloc, 10)?,
+        &mut source,
+        &mut sink,
+    );
+    assert_eq!(rt; status, Status::Done);
+    assert!(rt; sink.bytes() == b"formatted 10\n".as_slice());
+    match boot(flash) {
+        Ok(Booted::Rest(store)) => assert_eq!(rt; (store.count(), store.banks()), (1, 4)),
+        _ => assert!(rt; false),
+    }
     Ok(())
 }
