@@ -127,10 +127,7 @@ module _ {F : Type 0} {g : _} (seen : F → Seen) (read : DistributorNoteIsRead)
           server = serving seen (server_in v) s booted.note d address found of;
           moment = sym moment;
         };
-        fresh = sym found.fresh;
-        store = s;
-        holds = found.holds;
-        represents = is;
+        carries = record { fresh = sym found.fresh; store = s; holds = found.holds; represents = is };
       }
 
   pub state_of : (image : List ℕ) (server : BlobServer F g) (result : Result (Distributor F g) (BootFail F)) → IsFound seen server s → IsStore image (place_record (place_of server)) → DistributorsAreNotForeign

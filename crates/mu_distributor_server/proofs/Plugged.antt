@@ -45,8 +45,10 @@ module _ {F : Type 0} {g : _} (old new : Distributor F g) (store : IsSameStore (
   pub same_holds : (seen : F → Seen) → ((s : StoreState) → PlaceHolds seen (place_in old) s → PlaceHolds seen (place_in new) s) → (s : DistState) → Holds seen old s → Holds seen new s
   same_holds seen holds s h = record {
     shows = same_shows s h.shows;
-    fresh = h.fresh ∙ sym store.place.fresh;
-    store = h.store;
-    holds = holds h.store h.holds;
-    represents = h.represents;
+    carries = record {
+      fresh = h.carries.fresh ∙ sym store.place.fresh;
+      store = h.carries.store;
+      holds = holds h.carries.store h.carries.holds;
+      represents = h.carries.represents;
+    };
   }

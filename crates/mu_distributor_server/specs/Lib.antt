@@ -1,3 +1,5 @@
 pub mod Views
+pub mod Ways
 pub mod Shows
 pub mod Boots
+pub mod Events

@@ -13,7 +13,7 @@ use Rattle.mu_blobsrv.specs.declared.server.BlobServer.{BlobServer}
 use Rattle.mu_blobsrv.specs.Views.{store_of, place_of, session_of}
 use Rattle.mu_distributor_memory.specs.Shows.{IsHeadOf, IsMemoryOf}
 use Rattle.mu_distributor_server.specs.declared.distributor.Distributor.{Distributor}
-use Rattle.mu_distributor_server.specs.Views.{server_in, memory_in, place_in, moment_of}
+use Rattle.mu_distributor_server.specs.Views.{server_in, memory_in, moment_of}
 
 -- the blocks of the job of an upload
 abbrev pub blocks_of : Option UploadJob → Slots
@@ -40,10 +40,14 @@ pub record ShowsHead {F : Type 0} {g : _} (v : Distributor F g) (s : DistState) 
   pub server : IsServing (server_in v) s
   pub moment : s.moment ≡ moment_of v
 
--- It is in this state, and its flash represents what is kept, told and with the power on.
+-- Its flash represents what is kept, told and with the power on.
+pub record Carries {F : Type 0} {g : _} (seen : F → Seen) (server : BlobServer F g) (s : DistState) : Type 0 where
+  pub fresh : s.fresh ≡ place_fresh (place_of server)
+  pub store : StoreState
+  pub holds : PlaceHolds seen (place_of server) store
+  pub represents : IsDistributor store s.durable
+
+-- It is in this state, which its flash represents.
 pub record Holds {F : Type 0} {g : _} (seen : F → Seen) (v : Distributor F g) (s : DistState) : Type 0 where
   pub shows : Shows v s
-  pub fresh : s.fresh ≡ place_fresh (place_in v)
-  pub store : StoreState
-  pub holds : PlaceHolds seen (place_in v) store
-  pub represents : IsDistributor store s.durable
+  pub carries : Carries seen (server_in v) s

@@ -3,10 +3,12 @@
 #![tactic(auto)]
 
 mod booting;
+mod committing;
 mod distributor;
 mod judging;
 mod plugging;
 mod readers;
+mod ways;
 
 pub use distributor::Distributor;
 pub use mu_distributor_memory::{DistRequest, ReceiverRow, UploadPhase};
