@@ -7,3 +7,4 @@ pub mod Ran
 pub mod Recorded
 pub mod Applied
 pub mod Given
+pub mod Stepped

@@ -46,7 +46,7 @@ seen_is seen (Rest store) = refl
 seen_is seen (Fill filling) = refl
 seen_is seen (Halted stopped) = refl
 
-reads : {F : Type 0} {g : _} (seen : F → Seen) → RunLaws StateOf reading_of seen → (old new : Place F g) → RunsAreRead StateOf reading_of (place_seen seen old) (place_seen seen new)
+pub reads : {F : Type 0} {g : _} (seen : F → Seen) → RunLaws StateOf reading_of seen → (old new : Place F g) → RunsAreRead StateOf reading_of (place_seen seen old) (place_seen seen new)
 reads seen laws old new = rw (seen_is seen old, seen_is seen new) (laws.read (place_flash old) (place_flash new))
 
 last_if : (t : Bool) (s e : StoreState) → last_of s (if t then e ∷ [] else s ∷ e ∷ []) ≡ e

@@ -6,3 +6,4 @@ pub mod Boots
 pub mod Ways
 pub mod Does
 pub mod Taken
+pub mod Steps

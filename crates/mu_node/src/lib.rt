@@ -10,6 +10,7 @@ mod node;
 mod plugging;
 mod readers;
 mod records;
+mod steps;
 mod ways;
 
 pub use mu_blobsrv::{BootFail, BootWhy};

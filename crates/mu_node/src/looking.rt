@@ -7,7 +7,9 @@ ghost use Rattle.mu_model_stored_node.specs.NodeIn.{meta_in};
 ghost use Rattle.mu_update_rows.specs.Looks.{LooksAs, one_or_two, there, look_at};
 ghost use Rattle.mu_note.specs.Views.{active_banks};
 ghost use Rattle.mu_place.specs.Place.{place_record};
-ghost use Rattle.mu_node.specs.Views.{fault_in, place_in, note_in, Shows};
+ghost use Rattle.mu_node.specs.Views.{fault_in, place_in, note_in};
+ghost use Rattle.mu_node.specs.Does.{HasInMemory};
+ghost use Rattle.mu_node.specs.Steps.{JobIsKept, IsLookAt};
 
 use crate::node::Node;
 use mu_blobsrv::BankState;
@@ -50,7 +52,8 @@ impl<F: Flash> Node<F> {
 
     fn job_look(&self) -> Option<JobLook>
         requires { fault_in self.now ≡ None }
-        ensures { (n : NodeState) → Shows self.now n → result ≡ there look_at n.durable.job }
+        ensures shown { (n : NodeState) → HasInMemory self.now n → result ≡ there look_at n.durable.job }
+        ensures kept { JobIsKept result self.now }
     {
         memory_is_looked_at();
         match (self.server.job(), self.note.job) {
@@ -70,7 +73,8 @@ impl<F: Flash> Node<F> {
     // No fault is kept.
     pub(crate) fn look(&self) -> NodeLook
         requires { fault_in self.now ≡ None }
-        ensures { (n : NodeState) → Shows self.now n → LooksAs result n }
+        ensures shown { (n : NodeState) → HasInMemory self.now n → LooksAs result n }
+        ensures kept { IsLookAt result self.now }
     {
         memory_is_looked_at();
         NodeLook {

@@ -1,0 +1,68 @@
+-- Steps that write nothing, and what a step that writes was decided over.
+use Rattle.std.proofs.Common.{◌≡◌, ◌∙◌, ◌<◌, ℕ, zero, suc, Bool, true, false, List, [], ◌∷◌, map, Option, Some, None, refl, sym, ap, subst}
+use Rattle.std.specs.Prelude.{IsSomeAnd, slice_get, if◌then◌else◌}
+use Rattle.std.specs.List.{AllByRecursion}
+use Rattle.mu_model_flash.specs.Flash.{Seen}
+use Rattle.mu_model_flash.specs.Laws.{RunLaws}
+use Rattle.mu_model_flash.specs.Run.{either, Ran}
+use Rattle.mu_model_record.specs.declared.Record.{Record}
+use Rattle.mu_model_record.specs.declared.BankState.{BankState}
+use Rattle.mu_model_record.specs.declared.BankState.TheVariants.{Empty, Filling, Sealed}
+use Rattle.mu_model_record.specs.Record.{entry_of}
+use Rattle.mu_model_record.specs.Represents.{RepresentsStore}
+use Rattle.mu_model_node.specs.declared.Link.{Link}
+use Rattle.mu_model_node.specs.declared.Link.TheVariants.{Cut, Ready, Running}
+use Rattle.mu_model_node.specs.BlobServer.{Session, made_ready, heard_at}
+use Rattle.mu_model_node.specs.NodeState.{NodeDurable, NodeState}
+use Rattle.mu_model_represents.specs.Images.{IsSealed}
+use Rattle.mu_model_represents.specs.RepresentsNode.{IsNewerThan, IsNewerThanBank, RepresentsNode}
+use Rattle.mu_model_represents.specs.Short.{StoresAreReadAsNodes}
+use Rattle.mu_model_stored_node.specs.NodeIn.{meta_in}
+use Rattle.mu_update_rows.specs.Fits.{is_cut}
+use Rattle.mu_place.specs.Place.{place_seen}
+use Rattle.mu_blob_session.specs.Blocks.{is_cut_link, resumed}
+use Rattle.mu_node.specs.declared.node.Node.{Node}
+use Rattle.mu_node.specs.Views.{place_in, memory_of, seen_of, Holds}
+use Rattle.mu_node.specs.Ways.{Way, as_store, as_node, StateOf, reading_of}
+use Rattle.mu_node.specs.Does.{HasOnFlash}
+use Rattle.mu_node.proofs.Ran.{reads}
+
+-- ---- the link
+
+ready_by : (now : ℕ) (l : Session) (link : Link) → is_cut link ≡ true → (if is_cut_link link then made_ready now l else heard_at now l) ≡ made_ready now l
+ready_by now l Cut e = refl
+ready_by now l Ready e = absurd cc
+ready_by now l Running e = absurd cc
+
+pub is_ready : (now : ℕ) (l : Session) → is_cut l.link ≡ true → resumed now l ≡ made_ready now l
+is_ready now l e = ready_by now l l.link e
+
+heard_by : (now : ℕ) (l : Session) (link : Link) → is_cut link ≡ false → (if is_cut_link link then made_ready now l else heard_at now l) ≡ heard_at now l
+heard_by now l Cut e = absurd cc
+heard_by now l Ready e = refl
+heard_by now l Running e = refl
+
+pub is_heard : (now : ℕ) (l : Session) → is_cut l.link ≡ false → resumed now l ≡ heard_at now l
+is_heard now l e = heard_by now l l.link e
+
+-- ---- no operation
+
+pub rests : {F : Type 0} {g : _} (seen : F → Seen) → RunLaws StateOf reading_of seen → StoresAreReadAsNodes → (node : Node F g) (n : NodeState) → (h : Holds seen node n)
+    → Ran (either RepresentsStore) h.store [] (seen_of seen node) (seen_of seen node) → Ran (either RepresentsNode) n.durable [] (seen_of seen node) (seen_of seen node) × HasOnFlash seen node n.durable
+rests seen laws nodes node n h idle = (
+  (reads seen laws (place_in node) (place_in node)).ran as_store as_node h.store [] n.durable [] refl (λ told. nodes h.store [] n.durable [] ((memory_of node).part, (memory_of node).note, h.represents) tt) idle,
+  record { store = h.store; holds = h.holds; represents = h.represents },
+)
+
+-- ---- newer metadata
+
+newer_by : (version : ℕ) (entry : BankState) → IsSealed entry → (meta_in entry).version < version → IsNewerThan version entry
+newer_by version Empty sealed less = absurd sealed
+newer_by version (Filling size log) sealed less = absurd sealed
+newer_by version (Sealed meta) sealed less = less
+
+pub newer_bank : (r : Record) (version : ℕ) (active : List ℕ) (index : ℕ) → AllByRecursion (λ (b : ℕ). IsSealed (entry_of r b)) active
+    → IsSomeAnd (slice_get (map (λ (b : ℕ). meta_in (entry_of r b)) active) index) (λ meta. meta.version < version) → IsNewerThanBank r version (slice_get active index)
+newer_bank r version [] index all less = absurd less
+newer_bank r version (b ∷ active) zero all less = newer_by version (entry_of r b) all.0 less
+newer_bank r version (b ∷ active) (suc index) all less = newer_bank r version active index all.1 less
