@@ -175,7 +175,7 @@ time_linked s (Applying j) a h = tt
 
 -- ---- events
 
-request_linked : (s : NodeState) (from : ℕ) (request : Request) → IsLinked s → IsLinked (on_request s from request).next
+pub request_linked : (s : NodeState) (from : ℕ) (request : Request) → IsLinked s → IsLinked (on_request s from request).next
 request_linked s from (OfUpdate request) h = update_linked s from request h
 request_linked s from (OfBlob request) h = blob_linked s from request h
 

@@ -9,7 +9,8 @@ use Rattle.mu_model_node.specs.declared.NodeConfig.{NodeConfig}
 use Rattle.mu_model_node.specs.declared.Stored.{Stored}
 use Rattle.mu_model_node.specs.declared.Stored.TheVariants.{Refused}
 use Rattle.mu_model_node.specs.NodeState.{Job, NodeDurable, NodeState, restarted, UpdatePhase, Failed, update_phase, transfer_of, server_of, blob_phase}
-use Rattle.mu_model_node.specs.Events.{NodeEvent, node_step}
+use Rattle.mu_model_node.specs.NodeMessages.{Request}
+use Rattle.mu_model_node.specs.Events.{NodeEvent, on_request, node_step}
 use Rattle.mu_model_node.specs.Sound.{IsNodeState}
 
 -- ---- by the blocks alone
@@ -41,6 +42,10 @@ BootsAreLinked = (d : NodeDurable) → IsLinked (restarted d)
 
 abbrev pub EventsKeepLinked : Type 0
 EventsKeepLinked = (config : NodeConfig) (s : NodeState) (event : NodeEvent) (now : ℕ) → IsLinked s → IsLinked (node_step config s event now).next
+
+-- and after each message that is taken
+abbrev pub RequestsKeepLinked : Type 0
+RequestsKeepLinked = (s : NodeState) (from : ℕ) (request : Request) → IsLinked s → IsLinked (on_request s from request).next
 
 -- ---- both are alike
 

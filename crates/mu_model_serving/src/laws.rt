@@ -1,7 +1,7 @@
 //! Laws of the definitions: functions that do nothing, whose contracts are proved.
 
 ghost use Rattle.mu_model_serving.specs.Missing.{MessagesNameMissing, TimeNamesMissing};
-ghost use Rattle.mu_model_serving.specs.Laws.{BootsAreLinked, CancelsInFailed, EventsKeepLinked, PhasesAreAlike, ServesAlike, WaitsAlike};
+ghost use Rattle.mu_model_serving.specs.Laws.{BootsAreLinked, CancelsInFailed, EventsKeepLinked, PhasesAreAlike, RequestsKeepLinked, ServesAlike, WaitsAlike};
 
 use mu_model_wire::reports::reports;
 
@@ -11,6 +11,7 @@ use mu_model_wire::reports::reports;
 pub fn nodes_serve_by_their_blocks()
     ensures boots { BootsAreLinked }
     ensures events { EventsKeepLinked }
+    ensures requests { RequestsKeepLinked }
     ensures messages { ServesAlike }
     ensures time { WaitsAlike }
     ensures phases { PhasesAreAlike }

@@ -8,3 +8,4 @@ pub mod Recorded
 pub mod Applied
 pub mod Given
 pub mod Stepped
+pub mod Told

@@ -1,5 +1,5 @@
 -- Steps that write nothing, and what a step that writes was decided over.
-use Rattle.std.proofs.Common.{◌≡◌, ◌∙◌, ◌<◌, ℕ, zero, suc, Bool, true, false, List, [], ◌∷◌, map, Option, Some, None, refl, sym, ap, subst}
+use Rattle.std.proofs.Common.{◌≡◌, ◌∙◌, ◌<◌, ◌≤◌, ℕ, zero, suc, Bool, true, false, List, [], ◌∷◌, map, Option, Some, None, refl, sym, ap, subst, arith}
 use Rattle.std.specs.Prelude.{IsSomeAnd, slice_get, if◌then◌else◌}
 use Rattle.std.specs.List.{AllByRecursion}
 use Rattle.mu_model_flash.specs.Flash.{Seen}
@@ -13,16 +13,22 @@ use Rattle.mu_model_record.specs.Represents.{RepresentsStore}
 use Rattle.mu_model_node.specs.declared.Link.{Link}
 use Rattle.mu_model_node.specs.declared.Link.TheVariants.{Cut, Ready, Running}
 use Rattle.mu_model_node.specs.BlobServer.{Session, made_ready, heard_at}
-use Rattle.mu_model_node.specs.NodeState.{NodeDurable, NodeState}
+use Rattle.mu_model_node.specs.NodeMessages.{ByUpdate}
+use Rattle.mu_model_node.specs.NodeState.{Job, NodeDurable, NodeState}
+use Rattle.mu_model_node.specs.UpdateTable.{update_status}
 use Rattle.mu_model_represents.specs.Images.{IsSealed}
 use Rattle.mu_model_represents.specs.RepresentsNode.{IsNewerThan, IsNewerThanBank, RepresentsNode}
 use Rattle.mu_model_represents.specs.Short.{StoresAreReadAsNodes}
 use Rattle.mu_model_stored_node.specs.NodeIn.{meta_in}
-use Rattle.mu_update_rows.specs.Fits.{is_cut}
+use Rattle.mu_update_rows.specs.Fits.{IsKnown, is_cut}
+use Rattle.mu_update_rows.specs.Rows.{applied_with, update_stepped}
+use Rattle.mu_update_rows.specs.declared.table.UpdateStep.{UpdateStep}
+use Rattle.mu_update_rows.specs.declared.table.UpdateStep.TheVariants.{MakeReady, Hear, Take, Lose, Apply, Answer}
 use Rattle.mu_place.specs.Place.{place_seen}
 use Rattle.mu_blob_session.specs.Blocks.{is_cut_link, resumed}
 use Rattle.mu_node.specs.declared.node.Node.{Node}
 use Rattle.mu_node.specs.Views.{place_in, memory_of, seen_of, Holds}
+use Rattle.mu_node.specs.Steps.{status_by}
 use Rattle.mu_node.specs.Ways.{Way, as_store, as_node, StateOf, reading_of}
 use Rattle.mu_node.specs.Does.{HasOnFlash}
 use Rattle.mu_node.proofs.Ran.{reads}
@@ -66,3 +72,25 @@ pub newer_bank : (r : Record) (version : ℕ) (active : List ℕ) (index : ℕ) 
 newer_bank r version [] index all less = absurd less
 newer_bank r version (b ∷ active) zero all less = newer_by version (entry_of r b) all.0 less
 newer_bank r version (b ∷ active) (suc index) all less = newer_bank r version active index all.1 less
+
+-- ---- what is answered
+
+pub known_status : (step : UpdateStep) → IsKnown step → status_by step ≤ 7
+known_status MakeReady known = omega arith
+known_status Hear known = omega arith
+known_status (Take what) known = omega arith
+known_status Lose known = omega arith
+known_status Apply known = omega arith
+known_status (Answer status) known = known
+
+applied_replies : (n : NodeState) (to : ℕ) (q : Option Job) → (applied_with n to q).replies ≡ (to, ByUpdate (update_status 0 (applied_with n to q).next)) ∷ []
+applied_replies n to None = refl
+applied_replies n to (Some j) = refl
+
+pub step_replies : (n : NodeState) (to : ℕ) (step : UpdateStep) → (update_stepped n to step).replies ≡ (to, ByUpdate (update_status (status_by step) (update_stepped n to step).next)) ∷ []
+step_replies n to MakeReady = refl
+step_replies n to Hear = refl
+step_replies n to (Take what) = refl
+step_replies n to Lose = refl
+step_replies n to Apply = applied_replies n to n.durable.job
+step_replies n to (Answer status) = refl

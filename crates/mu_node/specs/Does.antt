@@ -1,5 +1,5 @@
 -- What a call makes of a node: what it has in memory then, what its flash represents, and the run of the flash (this profile).
-use Rattle.std.specs.Prelude.{◌≡◌, IfOk, Result}
+use Rattle.std.specs.Prelude.{◌≡◌, Some, IfOk, Result, Err}
 use Rattle.mu_model_flash.specs.Flash.{Seen}
 use Rattle.mu_model_flash.specs.Run.{either, Goes}
 use Rattle.mu_model_record.specs.Store.{StoreState}
@@ -14,7 +14,7 @@ use Rattle.mu_place.specs.Place.{place_fresh, PlaceHolds}
 use Rattle.mu_place.specs.Calls.{IsFlash}
 use Rattle.mu_blobsrv.specs.Views.{session_of}
 use Rattle.mu_node.specs.declared.node.Node.{Node}
-use Rattle.mu_node.specs.Views.{server_in, place_in, memory_of, moment_of, seen_of, Shows, Holds}
+use Rattle.mu_node.specs.Views.{server_in, place_in, fault_in, memory_of, moment_of, seen_of, Shows, Holds}
 
 -- it has this in memory
 pub record HasInMemory {F : Type 0} {g : _} (node : Node F g) (n : NodeState) : Type 0 where
@@ -40,3 +40,12 @@ Remembers outcome old new result = (n : NodeState) → Shows old n → IfOk resu
 
 abbrev pub Runs : {F T : Type 0} {g : _} → (F → Seen) → (NodeState → Outcome) → Node F g → Node F g → Result T StoreFault → Type 0
 Runs seen outcome old new result = (n : NodeState) → Holds seen old n → IsNodeDurable (outcome n).next.durable → NodeGoes seen n (outcome n) old new result
+
+-- The run of the flash through an outcome, after which the node is in the state that comes and its flash represents it, or a fault.
+abbrev pub NodeRuns : {F T : Type 0} {g : _} → (F → Seen) → NodeState → Outcome → Node F g → Node F g → Result T StoreFault → Type 0
+NodeRuns seen n o old new result =
+    Goes (either RepresentsNode) n.durable (work_by n.fresh n.durable o.next.durable o.work) (seen_of seen old) (λ _. seen_of seen new) (λ _. seen_of seen new) (λ _ _. Holds seen new o.next) IsFlash result
+
+-- where a fault was kept before, it is answered and nothing changes
+abbrev pub KeepsNode : {F T : Type 0} {g : _} → Node F g → Node F g → Result T StoreFault → Type 0
+KeepsNode old new result = (why : StoreFault) → fault_in old ≡ Some why → (result ≡ Err why) × (new ≡ old)

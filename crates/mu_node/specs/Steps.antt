@@ -1,7 +1,10 @@
 -- What a step of the update table is decided over, as the node has it in memory, and which fault may come of it.
-use Rattle.std.specs.Prelude.{◌≡◌, ℕ, Bool, true, false, map, Option, IsSome, IsSomeAnd, IfSome, IsOk, Result, is_some}
+use Rattle.std.specs.Prelude.{◌≡◌, ℕ, Bool, true, false, map, Option, IsSome, IsSomeAnd, IfSome, IsOk, IfErr, Result, is_some}
 use Rattle.mu_model_image.specs.declared.Meta.{Meta}
 use Rattle.mu_model_record.specs.Record.{entry_of, capacity_of}
+use Rattle.mu_model_node.specs.declared.FlashWork.{FlashWork}
+use Rattle.mu_model_node.specs.declared.FlashWork.TheVariants.{Untouched, Recorded, Begun, PutBlock}
+use Rattle.mu_model_node.specs.NodeOutcome.{Outcome}
 use Rattle.mu_model_node.specs.UpdateTable.{success}
 use Rattle.mu_model_stored_node.specs.NodeIn.{meta_in}
 use Rattle.mu_update_rows.specs.Looks.{one_or_two}
@@ -10,6 +13,7 @@ use Rattle.mu_update_rows.specs.declared.look.JobLook.{JobLook}
 use Rattle.mu_update_rows.specs.declared.table.UpdateStep.{UpdateStep}
 use Rattle.mu_update_rows.specs.declared.table.UpdateStep.TheVariants.{MakeReady, Hear, Take, Lose, Apply, Answer}
 use Rattle.mu_store.specs.declared.faults.StoreFault.{StoreFault}
+use Rattle.mu_store.specs.declared.faults.StoreFault.TheVariants.{Flash}
 use Rattle.mu_note.specs.Views.{active_banks}
 use Rattle.mu_place.specs.declared.place.Place.{Place}
 use Rattle.mu_place.specs.Place.{place_record}
@@ -43,3 +47,13 @@ StepFault Apply old result = WornAtLast old result
 StepFault MakeReady old result = IsOk result
 StepFault Hear old result = IsOk result
 StepFault (Answer status) old result = IsOk result
+
+-- the same by what an outcome does to the flash
+abbrev pub WorkFault : {F T : Type 0} {g : _} → FlashWork → Place F g → Result T StoreFault → Type 0
+WorkFault (Recorded is_long) old result = WornAtLast old result
+WorkFault (Begun is_long) old result = WornAtLast old result
+WorkFault (PutBlock pages) old result = IfErr result (λ why. why ≡ Flash)
+WorkFault Untouched old result = IsOk result
+
+abbrev pub UpdateFault : {F T : Type 0} {g : _} → Outcome → Place F g → Result T StoreFault → Type 0
+UpdateFault o old result = WorkFault o.work old result

@@ -6,11 +6,13 @@ mod free;
 mod judging;
 mod laws;
 mod looking;
+mod moments;
 mod node;
 mod plugging;
 mod readers;
 mod records;
 mod steps;
+mod updating;
 mod ways;
 
 pub use mu_blobsrv::{BootFail, BootWhy};

@@ -47,7 +47,7 @@ impl<F: Flash> Node<F> {
     }
 
     // Nothing is written: no operation has begun.
-    fn rests(&self)
+    pub(crate) fn rests(&self)
         ensures { (n : NodeState) → Holds F.seen self.now n → Ran (either RepresentsNode) n.durable [] (seen_of F.seen self.now) (seen_of F.seen self.now) × HasOnFlash F.seen self.now n.durable }
     {
         runs::<NodeWays<F>>();

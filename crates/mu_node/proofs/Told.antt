@@ -1,0 +1,52 @@
+-- A node after an event, in a state that can be.
+use Rattle.std.proofs.Common.{◌≡◌, ◌∙◌, ◌<◌, ◌≤◌, max, ℕ, Option, Some, None, refl, sym, ap, subst, arith}
+use Rattle.std.specs.Prelude.{IfOk, Result, Ok, Err}
+use Rattle.mu_model_flash.specs.Flash.{Seen}
+use Rattle.mu_model_flash.specs.Run.{either, Ran, Broke}
+use Rattle.mu_model_record.specs.Store.{StoreState}
+use Rattle.mu_model_node.specs.FlashWork.{work_by}
+use Rattle.mu_model_node.specs.NodeState.{NodeDurable, NodeState}
+use Rattle.mu_model_node.specs.NodeOutcome.{Outcome}
+use Rattle.mu_model_node.specs.Sound.{IsNodeState}
+use Rattle.mu_model_node.specs.Events.{at_moment}
+use Rattle.mu_model_serving.specs.Laws.{IsLinked}
+use Rattle.mu_model_represents.specs.RepresentsNode.{RepresentsNode}
+use Rattle.mu_store.specs.declared.faults.StoreFault.{StoreFault}
+use Rattle.mu_place.specs.declared.place.Place.{Place}
+use Rattle.mu_place.specs.declared.place.Place.TheVariants.{Rest, Fill, Halted}
+use Rattle.mu_place.specs.Place.{place_fault, place_seen, PlaceHolds}
+use Rattle.mu_node.specs.declared.node.Node.{Node}
+use Rattle.mu_node.specs.Views.{place_in, seen_of, Shows, Holds}
+use Rattle.mu_node.specs.Does.{HasInMemory, HasOnFlash, NodeGoes, NodeRuns}
+
+pub shows_of : {F : Type 0} {g : _} (node : Node F g) (n : NodeState) → HasInMemory node n → IsNodeState n → IsLinked n → Shows node n
+shows_of node n has sound linked = record { kept = has.kept; fresh = has.fresh; session = has.session; moment = has.moment; sound = sound; linked = linked }
+
+pub all_show : {F T : Type 0} {g : _} (node : Node F g) (n : NodeState) (result : Result T StoreFault) → IfOk result (λ _. HasInMemory node n) → IsNodeState n → IsLinked n → IfOk result (λ _. Shows node n)
+all_show node n (Ok t) has sound linked = shows_of node n has sound linked
+all_show node n (Err why) has sound linked = tt
+
+-- from a moment that was handed in
+pub all_run : {F T : Type 0} {g : _} (seen : F → Seen) (old mid new : Node F g) (n m : NodeState) (o : Outcome) (result : Result T StoreFault) → place_in mid ≡ place_in old → n.durable ≡ m.durable → n.fresh ≡ m.fresh
+    → NodeGoes seen m o mid new result → IfOk result (λ _. Shows new o.next) → NodeRuns seen n o old new result
+all_run seen old mid new n m o (Ok t) place kept fresh run shows = (
+  subst (λ (p : Place _ _). Ran (either RepresentsNode) n.durable (work_by n.fresh n.durable o.next.durable o.work) (place_seen seen p) (seen_of seen new)) place
+      (rw (kept, fresh) run.0),
+  record { shows = shows; store = run.1.store; holds = run.1.holds; represents = run.1.represents },
+)
+all_run seen old mid new n m o (Err why) place kept fresh run shows =
+    λ flash. subst (λ (p : Place _ _). Broke (either RepresentsNode) n.durable (work_by n.fresh n.durable o.next.durable o.work) (place_seen seen p) (seen_of seen new)) place (rw (kept, fresh) (run flash))
+
+-- where a fault is kept no state is held
+kept_by : {F : Type 0} {g : _} (seen : F → Seen) (place : Place F g) (s : StoreState) (why : StoreFault) → place_fault place ≡ Some why → PlaceHolds seen place s → ⊥
+kept_by seen (Rest store) s why e holds = absurd cc
+kept_by seen (Fill filling) s why e holds = absurd cc
+kept_by seen (Halted stopped) s why e holds = holds
+
+pub none_held : {F : Type 0} {g : _} (seen : F → Seen) (node : Node F g) (n : NodeState) (why : StoreFault) → place_fault (place_in node) ≡ Some why → Holds seen node n → ⊥
+none_held seen node n why e h = kept_by seen (place_in node) h.store why e h.holds
+
+-- ---- a moment that is handed in
+
+pub sound_later : (n : NodeState) (now : ℕ) → IsNodeState n → IsNodeState (at_moment n now)
+sound_later n now is = record { durable = is.durable; fresh = is.fresh; current = is.current }
