@@ -60,19 +60,6 @@ rests seen laws nodes node n h idle = (
   record { store = h.store; holds = h.holds; represents = h.represents },
 )
 
--- ---- newer metadata
-
-newer_by : (version : ℕ) (entry : BankState) → IsSealed entry → (meta_in entry).version < version → IsNewerThan version entry
-newer_by version Empty sealed less = absurd sealed
-newer_by version (Filling size log) sealed less = absurd sealed
-newer_by version (Sealed meta) sealed less = less
-
-pub newer_bank : (r : Record) (version : ℕ) (active : List ℕ) (index : ℕ) → AllByRecursion (λ (b : ℕ). IsSealed (entry_of r b)) active
-    → IsSomeAnd (slice_get (map (λ (b : ℕ). meta_in (entry_of r b)) active) index) (λ meta. meta.version < version) → IsNewerThanBank r version (slice_get active index)
-newer_bank r version [] index all less = absurd less
-newer_bank r version (b ∷ active) zero all less = newer_by version (entry_of r b) all.0 less
-newer_bank r version (b ∷ active) (suc index) all less = newer_bank r version active index all.1 less
-
 -- ---- what is answered
 
 pub known_status : (step : UpdateStep) → IsKnown step → status_by step ≤ 7

@@ -36,17 +36,3 @@ all_run seen old mid new n m o (Ok t) place kept fresh run shows = (
 )
 all_run seen old mid new n m o (Err why) place kept fresh run shows =
     λ flash. subst (λ (p : Place _ _). Broke (either RepresentsNode) n.durable (work_by n.fresh n.durable o.next.durable o.work) (place_seen seen p) (seen_of seen new)) place (rw (kept, fresh) (run flash))
-
--- where a fault is kept no state is held
-kept_by : {F : Type 0} {g : _} (seen : F → Seen) (place : Place F g) (s : StoreState) (why : StoreFault) → place_fault place ≡ Some why → PlaceHolds seen place s → ⊥
-kept_by seen (Rest store) s why e holds = absurd cc
-kept_by seen (Fill filling) s why e holds = absurd cc
-kept_by seen (Halted stopped) s why e holds = holds
-
-pub none_held : {F : Type 0} {g : _} (seen : F → Seen) (node : Node F g) (n : NodeState) (why : StoreFault) → place_fault (place_in node) ≡ Some why → Holds seen node n → ⊥
-none_held seen node n why e h = kept_by seen (place_in node) h.store why e h.holds
-
--- ---- a moment that is handed in
-
-pub sound_later : (n : NodeState) (now : ℕ) → IsNodeState n → IsNodeState (at_moment n now)
-sound_later n now is = record { durable = is.durable; fresh = is.fresh; current = is.current }

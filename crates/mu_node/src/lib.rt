@@ -15,6 +15,7 @@ mod steps;
 mod updating;
 mod ways;
 
-pub use mu_blobsrv::{BootFail, BootWhy};
+pub use mu_blobsrv::{BootFail, BootWhy, StoreFault};
 pub use mu_model_node::NodeConfig;
+pub use mu_update_rows::{UpdateRequest, UpdateStart};
 pub use node::Node;

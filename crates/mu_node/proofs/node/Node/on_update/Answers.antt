@@ -7,7 +7,7 @@ use Rattle.mu_model_node.specs.Events.{at_moment}
 use Rattle.mu_model_node.specs.UpdateTable.{on_update}
 use Rattle.mu_update_rows.specs.Messages.{update_request_of}
 use Rattle.mu_blobsrv.specs.Views.{place_of}
-use Rattle.mu_node.proofs.Told.{all_show, all_run, none_held}
+use Rattle.mu_node.proofs.Told.{all_show, all_run}
 use Rattle.mu_node.proofs.node.Node.on_update.Goals as goal
 
 pub returns-clause-state : goal.returns-clause-state
