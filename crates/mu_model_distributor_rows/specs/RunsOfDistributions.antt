@@ -2,7 +2,7 @@
 use Rattle.std.specs.Prelude.{List, [], ◌∷◌}
 use Rattle.mu_model_distributor_rows.specs.Scenes.{no_job_status, receivers_get, distribution_get, distribution_start, distribution_suspend, distribution_cancel, distribution_apply, block_start, chunk, block_get, blob_information_get, update_status, metadata_status, no_distribution, distribution_status, Turn, quiet, asks, boots, passes, sends, metadata_check, transfer_of, update_get, update_apply, update_cancel, information_get, metadata_refused, limits, transfer_told, transfer_refused, block_status, shown_image, comes, update_start}
 
--- one receiver verifies the image and applies it, the other fails to verify it
+-- one receiver verifies the image and applies it, the other fails to verify it; the next distribution begins without their progress
 abbrev pub one_fails : List Turn
 one_fails =
     asks (distribution_start 0 5 0 5 0 0xc0) (distribution_status 0 1) (4 ∷ 1 ∷ 0 ∷ []) ((10 ∷ 0 ∷ 0 ∷ 0 ∷ []) ∷ (10 ∷ 0 ∷ 0 ∷ 0 ∷ []) ∷ [])
@@ -34,6 +34,9 @@ one_fails =
     ∷ quiet (comes 2 shown_image) (11 ∷ 3 ∷ 0 ∷ []) ((8 ∷ 0 ∷ 0 ∷ 100 ∷ []) ∷ (5 ∷ 0 ∷ 0 ∷ 100 ∷ []) ∷ [])
     ∷ quiet (passes 0) (12 ∷ 4 ∷ 0 ∷ []) ((8 ∷ 0 ∷ 0 ∷ 100 ∷ []) ∷ (5 ∷ 0 ∷ 0 ∷ 100 ∷ []) ∷ [])
     ∷ quiet (passes 0) (12 ∷ 4 ∷ 0 ∷ []) ((8 ∷ 0 ∷ 0 ∷ 100 ∷ []) ∷ (5 ∷ 0 ∷ 0 ∷ 100 ∷ []) ∷ [])
+    ∷ asks (receivers_get 0 9) (0x83 ∷ 0x15 ∷ 2 ∷ 0 ∷ 0 ∷ 0 ∷ 2 ∷ 0 ∷ 4 ∷ 0xc8 ∷ 0 ∷ 3 ∷ 0x80 ∷ 2 ∷ 0xc8 ∷ 0 ∷ []) (12 ∷ 4 ∷ 0 ∷ []) ((8 ∷ 0 ∷ 0 ∷ 100 ∷ []) ∷ (5 ∷ 0 ∷ 0 ∷ 100 ∷ []) ∷ [])
+    ∷ asks (distribution_start 0 5 0 5 0 0xc0) (distribution_status 0 1) (13 ∷ 1 ∷ 0 ∷ []) ((10 ∷ 0 ∷ 0 ∷ 0 ∷ []) ∷ (10 ∷ 0 ∷ 0 ∷ 0 ∷ []) ∷ [])
+    ∷ asks (receivers_get 0 9) (0x83 ∷ 0x15 ∷ 2 ∷ 0 ∷ 0 ∷ 0 ∷ 2 ∷ 0 ∷ 5 ∷ 0 ∷ 0 ∷ 3 ∷ 0 ∷ 5 ∷ 0 ∷ 0 ∷ []) (13 ∷ 1 ∷ 0 ∷ []) ((10 ∷ 0 ∷ 0 ∷ 0 ∷ []) ∷ (10 ∷ 0 ∷ 0 ∷ 0 ∷ []) ∷ [])
     ∷ []
 
 -- no row is verified: the distribution has failed, and nothing is sent; the next one begins with rows that have no statuses
