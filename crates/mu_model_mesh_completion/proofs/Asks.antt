@@ -5,6 +5,8 @@ use Rattle.std.specs.List.{AllByRecursion, list_any, find, range_with_len, flat_
 use Rattle.std.proofs.Math.Nat.{mul-le-mul_left}
 use Rattle.std.proofs.lemmas.Bool.{eqb-true}
 use Rattle.std.proofs.lemmas.Bool.Decides.{nat_tests}
+use Rattle.mu_model_wire.specs.Limits.{most_chunk}
+use Rattle.mu_model_image.specs.Sizes.{most_image}
 use Rattle.mu_model_image.specs.Pieces.{block_of, block_length, chunk_of, chunk_length}
 use Rattle.mu_model_image.specs.Laws.{BlocksAreThoseWithin, BlockHasItsLength, ChunksAreThoseWithin, ChunkHasItsLength}
 use Rattle.mu_model_node.specs.BlobMessages.{ChunkTransfer}
@@ -13,6 +15,7 @@ use Rattle.mu_model_client.specs.declared.Sending.{Sending}
 use Rattle.mu_model_client.specs.Rows.{Row}
 use Rattle.mu_model_client.specs.Answers.{Answer}
 use Rattle.mu_model_client.specs.Client.{Purpose, Blob, Update, Step, Check, Start, Information, Transfer, Block, Chunks, Pull, Get, Verify, Apply, Confirm, Cancel, part_of, Receiver, is_pending, misses_chunks, is_begun_for, Item, Sends, Place, Before, At, Verified, Ended, Client, at_moment, row_of, block_total, chunk_total, is_push, round_time}
+pub use Rattle.mu_model_client.specs.Places.{StepFits, PlaceFits}
 use Rattle.mu_model_client.specs.Lists.{metadata_of, step_message, pull_again, again_message, said_to, said_if, messages, lacking, destinations, chunk_items, missing_of, wanted_of, first_list, chunk_octets, sent_for}
 use Rattle.mu_model_client.specs.Told.{told}
 use Rattle.mu_model_client.specs.Due as d
@@ -37,24 +40,11 @@ pub record SendingFits (p : Sending) (purpose : Purpose) (image : List ℕ) : Ty
   pub log_least : 12 ≤ p.log
   pub log_most : p.log ≤ 14
   pub chunk_least : 8 ≤ p.chunk
-  pub chunk_most : p.chunk ≤ 376
+  pub chunk_most : p.chunk ≤ most_chunk
   pub size_least : 1 ≤ p.size
-  pub size_most : p.size ≤ 1048576
+  pub size_most : p.size ≤ most_image
   pub whole : p.size ≡ length image
   pub metadata : length (metadata_of purpose) ≤ 255
-
-abbrev pub StepFits : Sending → Step → Type 0
-StepFits p (Block b) = b < block_total p
-StepFits p (Chunks b) = b < block_total p
-StepFits p (Pull b) = b < block_total p
-StepFits p (Get b) = b < block_total p
-StepFits p _ = Unit {0}
-
-abbrev pub PlaceFits : Sending → Place → Type 0
-PlaceFits p (Before step) = StepFits p step
-PlaceFits p (At step) = StepFits p step
-PlaceFits p Verified = Unit {0}
-PlaceFits p (Ended part) = Unit {0}
 
 abbrev pub Items : Sending → List ℕ → List Item → Type 0
 Items p image items = AllByRecursion (λ (i : Item). InRange (sent_for p image i).1) items
