@@ -1,5 +1,6 @@
 -- Packets that stand one behind the other.
 use Rattle.std.specs.Prelude.{ℕ, ◌+◌, ◌≤◌, List, length, take, drop}
+use Rattle.mu_model_wire.specs.Limits.{most_octets}
 use Rattle.mu_model_wire.specs.Packet.{Packet}
 use Rattle.mu_world.specs.declared.head.Head.{Head}
 
@@ -10,4 +11,4 @@ packet_in octets head = record { from = head.from; to = head.to; payload = take 
 -- its octets are there, and are no more than a packet may have
 pub record IsWithin (octets : List ℕ) (head : Head) : Type 0 where
   pub there : head.begins + head.length ≤ length octets
-  pub few : head.length ≤ 380
+  pub few : head.length ≤ most_octets

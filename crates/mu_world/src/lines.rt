@@ -1,6 +1,7 @@
 // What lines print.
 ghost use Rattle.std.specs.Prelude.{◌≡◌, ◌≤◌, ◌∷◌, ◌++◌, [], length, decimal, codes, OnOk, OnErr};
 ghost use Rattle.hex.specs.Hex.{encode_lower};
+ghost use Rattle.mu_model_wire.specs.Limits.{most_octets};
 ghost use Rattle.mu_model_script.specs.Pieces.{blank};
 ghost use Rattle.mu_model_script.specs.Texts.{address_text, sent_text, unread_text, active_text, phase_text, boot_text, text_line};
 
@@ -40,9 +41,9 @@ fn put_number(line: &mut Vec<u8>, number: u32) -> Result<(), AllocError>
     put_token(line, buffer.format(number).as_bytes())
 }
 
-/// At most 380 octets, in hexadecimal.
+/// Octets of a message, in hexadecimal.
 fn put_octets(line: &mut Vec<u8>, octets: &[u8]) -> Result<(), AllocError>
-    requires { length octets.now ≤ 380 }
+    requires { length octets.now ≤ most_octets }
     ensures { OnOk result (line.new.items ≡ line.old.items ++ blank ∷ encode_lower octets.now) }
 {
     let mut room = [0; 760];
