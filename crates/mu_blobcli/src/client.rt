@@ -28,7 +28,9 @@ use mu_report::NumberSet;
 use mu_rounds::{Rounds, rounds_at};
 use std::marker::Model;
 
-/// A client that sends one BLOB to its receivers.
+/// A client that sends one BLOB to its receivers. It takes about 140 KB: for each of 128 receivers four sets of at most
+/// 2,048 numbers; nothing is allocated. A time event visits each receiver a few times and each packet that it sends, and no receiver
+/// for each chunk. A message visits each receiver's address once, and then costs what its own length does.
 #[derive(Drop)]
 pub struct BlobClient {
     rounds: Rounds,

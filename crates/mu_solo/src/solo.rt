@@ -23,7 +23,8 @@ use mu_receivers::{ImageBytes, SliceImage};
 use mu_updcli::{Plan, UpdateClient};
 use std::marker::Model;
 
-/// A standalone updater.
+/// A standalone updater. It takes about 141 KB: its client, and its rows; nothing is allocated. An event costs what it costs its
+/// client, and a copy of each row.
 #[derive(Drop)]
 pub struct Solo {
     address: u16,
@@ -62,7 +63,8 @@ impl Solo {
         requires range { IsSendable plan.sending }
         requires mode { HasMode plan.sending }
         requires apply { plan.apply ≡ true }
-        ensures { (image : WholeImage) → with_image result image ≡ new_updater plan image (map first_image to.now) }
+        ensures updater { (image : WholeImage) → with_image result image ≡ new_updater plan image (map first_image to.now) }
+        ensures sending { result.sending ≡ plan.sending }
     {
         let client = UpdateClient::start(plan, &first_images(to));
         let rows = client.rows();
@@ -78,6 +80,7 @@ impl Solo {
     pub fn on_packet(&mut self, packet: &Packet, now: u64) -> bool
         ensures next { Steps self.old (PacketComes (packet_of packet.now)) now self.new }
         ensures handled { (image : WholeImage) → result ≡ (step_of self.old image (PacketComes (packet_of packet.now)) now).handled }
+        ensures sending { self.new.sending ≡ self.old.sending }
     {
         let handled = on_packet(&mut self.client, self.address, packet, now);
         self.rows = self.client.rows();
@@ -91,6 +94,7 @@ impl Solo {
         requires empty { out.old.items ≡ [] }
         ensures next { Steps self.old TimeComes now self.new }
         ensures packets { (whole : WholeImage) → whole.octets ≡ image.now → map packet_of out.new.items ≡ (step_of self.old whole TimeComes now).sent }
+        ensures sending { self.new.sending ≡ self.old.sending }
     {
         let _address = self.address;
         match self.on_time_over(&mut SliceImage::new(image), now, out) {
@@ -112,6 +116,7 @@ impl Solo {
         ensures next { OnOk result (Steps self.old TimeComes now self.new) }
         ensures packets { OnOk result ((whole : WholeImage) → IsImage (I.image image.old).octets whole → map packet_of out.new.items ≡ (step_of self.old whole TimeComes now).sent) }
         ensures before { OnErr result (self.new ≡ self.old) }
+        ensures sending { self.new.sending ≡ self.old.sending }
         ensures nothing { OnErr result (out.new.items ≡ []) }
         ensures same { IsSame (I.image image.old) (I.image image.new) }
         ensures fails { OnErr result (IsTrue (I.image image.old).can_fail) }

@@ -32,7 +32,9 @@ use mu_rounds::{Rounds, part_of, rounds_at};
 use mu_updmsg::UpdMsg;
 use std::marker::Model;
 
-/// A client that updates its receivers with one image.
+/// A client that updates its receivers with one image. It takes about 140 KB: for each of 128 receivers four sets of at most
+/// 2,048 numbers; nothing is allocated. A time event visits each receiver a few times and each packet that it sends, and no receiver
+/// for each chunk. A message visits each receiver's address once, and then costs what its own length does.
 #[derive(Drop)]
 pub struct UpdateClient {
     rounds: Rounds,
