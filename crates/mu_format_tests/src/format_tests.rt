@@ -160,6 +160,14 @@ fn each_operation_of_the_flash_that_fails_ends_it(rt: HostRuntime) -> Result<(),
     Ok(())
 }
 
+// The count of the record of a flash whose banks are not being filled, and how many banks it has.
+fn banks(flash: RamFlash) -> Option<(u32, u8)> {
+    match boot(flash) {
+        Ok(Booted::Rest(store)) => Some((store.count(), store.banks())),
+        _ => None,
+    }
+}
+
 #[test]
 fn a_distributor_is_made_without_an_input(rt: HostRuntime) -> Result<(), Fail> {
     let alloc = rt.alloc();
@@ -178,9 +186,6 @@ fn a_distributor_is_made_without_an_input(rt: HostRuntime) -> Result<(), Fail> {
     );
     assert_eq!(rt; status, Status::Done);
     assert!(rt; sink.bytes() == b"formatted 10\n".as_slice());
-    match boot(flash) {
-        Ok(Booted::Rest(store)) => assert_eq!(rt; (store.count(), store.banks()), (1, 4)),
-        _ => assert!(rt; false),
-    }
+    assert_eq!(rt; banks(flash), Some((1, 4)));
     Ok(())
 }
