@@ -3,6 +3,7 @@
 
 mod memory;
 mod noting;
+mod receivers;
 mod steps;
 
 pub use memory::Memory;

@@ -2,42 +2,32 @@
 use Rattle.std.proofs.Common.{◌≡◌, ◌∙◌, ℕ, ◌+◌, ◌≤◌, Bool, true, false, List, [], ◌∷◌, map, take, length, Option, Some, None, refl, sym, ap, subst, inl, inr}
 use Rattle.std.specs.Prelude.{◌==◌, ◌&&◌, not, is_some}
 use Rattle.std.specs.List.{AllZip}
-use Rattle.mu_model_flash.specs.Flash.{Seen}
 use Rattle.mu_distmsg.specs.declared.message.ReceiverRow.{ReceiverRow}
 use Rattle.mu_model_image.specs.declared.Meta.{Meta}
 use Rattle.mu_model_record.specs.declared.Record.{Record}
-use Rattle.mu_model_record.specs.declared.BankState.{BankState}
-use Rattle.mu_model_record.specs.declared.BankState.TheVariants.{Sealed}
 use Rattle.mu_model_record.specs.Record.{entry_of}
-use Rattle.mu_model_record.specs.Kinds.{IsStore}
 use Rattle.mu_model_record.specs.Store.{StoreState}
 use Rattle.mu_model_node.specs.declared.Parameters.{Parameters}
 use Rattle.mu_model_node.specs.declared.Link.{Link}
 use Rattle.mu_model_node.specs.declared.Link.TheVariants.{Cut, Ready, Running}
 use Rattle.mu_model_node.specs.Slots.{is_full}
-use Rattle.mu_model_node.specs.BlobServer.{Transfer, CurrentBlock, Session, serving_of, serving_by, Lacking, Whole, blob_number, serving_phase, transfer_phase, Server, Serving}
-use Rattle.mu_model_distributor.specs.DistState.{StoredImage, UploadJob, Upload, NoUpload, Uploading, Broken, Uploaded, DistDurable, DistState, no_progress}
+use Rattle.mu_model_node.specs.BlobServer.{Transfer, CurrentBlock, Session, serving_of, serving_by, Lacking, Whole, blob_number, serving_phase, transfer_phase}
+use Rattle.mu_model_distributor.specs.DistState.{StoredImage, UploadJob, DistDurable, no_progress}
 use Rattle.mu_model_distributor.specs.DistTime.{is_whole}
 use Rattle.mu_model_distributor.specs.DistEvents.{restarted, is_broken_off}
-use Rattle.mu_model_represents.specs.BlobPart.{BlobJob, note_part, IsBlobRecord, IsNoBlobRecord, transfer_in}
-use Rattle.mu_model_represents_distributor.specs.Boots.{IsForeignToDistributors, DistributorsAreNotForeign}
-use Rattle.mu_model_represents_distributor.specs.DistributorNote.{DistributorNote, SpellsDistributor, UploadPhase as NotePhase}
+use Rattle.mu_model_represents.specs.BlobPart.{BlobJob, note_part, IsBlobRecord, transfer_in}
+use Rattle.mu_model_represents_distributor.specs.DistributorNote.{DistributorNote}
 use Rattle.mu_model_represents.specs.Laws.{BlobPartIsOne}
-use Rattle.mu_model_represents_distributor.specs.RepresentsDistributor.{UploadGoesWith, HasStored, IsDistributorRecord, IsNoDistributorRecord, IsDistributorOf, IsDistributor, RepresentsDistributor, upload_job_in, upload_by, bank_of}
-use Rattle.mu_model_stored_distributor.specs.DistributorIn.{note_in, DistributorNoteIsRead}
-use Rattle.mu_store.specs.Booted.{booted_record}
-use Rattle.mu_store.specs.declared.booting.Booted.{Booted}
-use Rattle.mu_store.specs.declared.booting.Booted.TheVariants.{Rest, Fill}
-use Rattle.mu_place.specs.Place.{placed, place_record}
+use Rattle.mu_model_represents_distributor.specs.RepresentsDistributor.{UploadGoesWith, HasStored, IsDistributorRecord, IsDistributorOf, IsDistributor, upload_job_in, upload_by, bank_of}
+use Rattle.mu_model_stored_distributor.specs.DistributorIn.{DistributorNoteIsRead}
 use Rattle.mu_distributor_kept.specs.declared.phase.UploadPhase.{UploadPhase}
 use Rattle.mu_distributor_kept.specs.declared.phase.UploadPhase.TheVariants.{Idle, TransferActive, TransferError, TransferSuccess}
-use Rattle.mu_distributor_kept.specs.Views.{upload_phase, row_receiver, row_receivers}
+use Rattle.mu_distributor_kept.specs.Views.{upload_phase, row_receivers}
 use Rattle.mu_distributor_note.specs.declared.note.NoteHead.{NoteHead}
 use Rattle.mu_distributor_note.specs.Views.{distributor_note}
 use Rattle.mu_distributor_note.specs.Rules.{IsDistributorNote}
 use Rattle.mu_distributor_rows.specs.Looks.{meta_of, phase_of}
 use Rattle.mu_distributor_rows.specs.Receivers.{progress_in, AreRowsOf}
-use Rattle.mu_distributor_answers.specs.Images.{AreImages}
 use Rattle.mu_distributor_memory.specs.Shows.{IsHeadBy}
 use Rattle.mu_distributor_server.specs.Boots.{GoesWith, meta_by, lags_in}
 use Rattle.mu_kept.specs.Shows.{served_in}

@@ -1,5 +1,5 @@
 -- What a boot of a distributor gives.
-use Rattle.std.proofs.Common.{◌≡◌, ◌∙◌, ℕ, Bool, true, false, List, Option, Some, None, refl, sym, ap, subst, inl, inr}
+use Rattle.std.proofs.Common.{◌≡◌, ◌∙◌, ℕ, false, List, Option, Some, None, refl, sym, ap, subst, inl, inr}
 use Rattle.std.specs.Option.{option_map}
 use Rattle.std.specs.Prelude.{is_some, Result, Ok, Err, IfOk, IfErr, OnErr, MatchResult}
 use Rattle.mu_model_flash.specs.Flash.{Seen}
@@ -7,11 +7,11 @@ use Rattle.mu_model_record.specs.declared.Record.{Record}
 use Rattle.mu_model_record.specs.Record.{capacity_of}
 use Rattle.mu_model_record.specs.Kinds.{IsStore}
 use Rattle.mu_model_record.specs.Store.{StoreState}
-use Rattle.mu_model_node.specs.Slots.{Slots, received}
+use Rattle.mu_model_node.specs.Slots.{received}
 use Rattle.mu_model_node.specs.BlobServer.{asleep}
-use Rattle.mu_model_distributor.specs.DistState.{UploadJob, Upload, NoUpload, Uploading, Broken, Uploaded, DistDurable, job_of}
+use Rattle.mu_model_distributor.specs.DistState.{UploadJob, DistDurable, job_of}
 use Rattle.mu_model_distributor.specs.DistEvents.{restarted}
-use Rattle.mu_model_represents.specs.BlobPart.{BlobJob, IsBlobRecord, IsNoBlobRecord}
+use Rattle.mu_model_represents.specs.BlobPart.{BlobJob, IsNoBlobRecord}
 use Rattle.mu_model_represents_distributor.specs.Boots.{IsForeignToDistributors, DistributorsAreNotForeign}
 use Rattle.mu_model_represents_distributor.specs.DistributorNote.{DistributorNote, UploadPhase, UploadIdle, UploadActive, UploadError, UploadSuccess}
 use Rattle.mu_model_represents.specs.Laws.{BlobPartIsOne}

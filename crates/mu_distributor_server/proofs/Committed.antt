@@ -1,6 +1,5 @@
 -- A record that leaves the banks and the job as they are.
-use Rattle.std.proofs.Common.{◌≡◌, ◌∙◌, ℕ, ◌+◌, ◌++◌, Bool, true, false, Option, Some, None, List, [], refl, sym, ap, subst}
-use Rattle.std.specs.Option.{option_map}
+use Rattle.std.proofs.Common.{◌≡◌, ◌∙◌, ℕ, ◌+◌, ◌++◌, Bool, true, false, Option, None, List, refl, sym, ap, subst}
 use Rattle.std.specs.Prelude.{IfOk, Result}
 use Rattle.mu_model_flash.specs.Flash.{Seen}
 use Rattle.mu_model_record.specs.declared.Record.{Record}
@@ -9,20 +8,17 @@ use Rattle.mu_model_record.specs.Changes.{tagged}
 use Rattle.mu_model_record.specs.ChangeLaws.{IsNotLast}
 use Rattle.mu_model_record.specs.Next.{record_steps}
 use Rattle.mu_model_record.specs.Next.{fresh_after as slots_after}
-use Rattle.mu_model_record.specs.Store.{StoreState}
 use Rattle.mu_model_node.specs.declared.FlashWork.TheVariants.{Recorded}
 use Rattle.mu_model_node.specs.FlashWork.{fresh_after}
 use Rattle.mu_model_distributor.specs.Commit.{is_long, recorded}
-use Rattle.mu_model_distributor.specs.DistState.{UploadJob, Upload, NoUpload, Uploading, Broken, Uploaded, DistDurable, DistState, job_of, run_by, run_upload}
+use Rattle.mu_model_distributor.specs.DistState.{Upload, NoUpload, Uploading, Broken, Uploaded, DistDurable, DistState, job_of, run_by}
 use Rattle.mu_model_distributor.specs.Sound.{IsDistDurable}
 use Rattle.mu_model_jobs.specs.States.{TaggedIsAState}
 use Rattle.mu_model_represents.specs.BlobPart.{BlobJob as PartJob, blob_octets}
 use Rattle.mu_model_represents_distributor.specs.DistributorNote.{distributor_octets}
 use Rattle.mu_model_represents_distributor.specs.Numbers.{HasUploadMtu, HasDistributorNumbers}
 use Rattle.mu_model_represents_distributor.specs.RepresentsDistributor.{part_of_upload, note_of_distributor, distributor_tag}
-use Rattle.mu_model_represents_distributor.specs.Written.{KeepsDistributor}
-use Rattle.mu_model_stored_distributor.specs.Kept.{IsAfter, UploadStays}
-use Rattle.mu_note.specs.declared.blob.BlobJob.{BlobJob}
+use Rattle.mu_model_stored_distributor.specs.Kept.{UploadStays}
 use Rattle.mu_store.specs.declared.faults.StoreFault.{StoreFault}
 use Rattle.mu_place.specs.Place.{place_fault, place_record, place_fresh}
 use Rattle.mu_place.specs.Calls.{WornAtLast, PlaceGoes}
@@ -32,7 +28,7 @@ use Rattle.mu_blobsrv.specs.declared.server.BlobServer.{BlobServer}
 use Rattle.mu_blobsrv.specs.Views.{store_of, place_of}
 use Rattle.mu_distributor_server.specs.Events.{ServerWorks, SameBesideNote}
 use Rattle.mu_distributor_server.specs.Shows.{Carries}
-use Rattle.mu_distributor_server.proofs.Works.{held_present, Unworn, unworn, not_last, RecordLaws, IsWritten, record_works, state_kept, keeps_kept, numbers_kept, numbers_next, written_next, is_tag}
+use Rattle.mu_distributor_server.proofs.Works.{held_present, unworn, not_last, RecordLaws, IsWritten, record_works, state_kept, keeps_kept, numbers_kept, numbers_next, written_next, is_tag}
 
 -- the job of the run is that of the record
 pub job_run : (lags : Bool) (upload : Upload) → job_of (run_by lags upload) ≡ job_of upload

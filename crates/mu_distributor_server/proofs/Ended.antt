@@ -1,13 +1,12 @@
 -- An event's end.
-use Rattle.std.proofs.Common.{◌≡◌, ◌∙◌, ℕ, Bool, true, false, List, [], refl, sym, ap, subst}
-use Rattle.std.specs.Prelude.{◌↔◌, IfOk, Result, Ok, Err}
+use Rattle.std.proofs.Common.{◌≡◌, ◌∙◌, Bool, true, false, [], refl, sym, subst}
+use Rattle.std.specs.Prelude.{Result, Ok, Err}
 use Rattle.mu_model_flash.specs.Flash.{Seen}
 use Rattle.mu_model_flash.specs.Laws.{RunLaws}
 use Rattle.mu_model_flash.specs.Run.{either, Ran}
-use Rattle.mu_model_node.specs.declared.FlashWork.{FlashWork}
-use Rattle.mu_model_node.specs.declared.FlashWork.TheVariants.{Untouched, Recorded}
+use Rattle.mu_model_node.specs.declared.FlashWork.TheVariants.{Untouched}
 use Rattle.mu_model_record.specs.Represents.{RepresentsStore}
-use Rattle.mu_model_distributor.specs.Commit.{is_long, recorded, recorded_if, committed, work_to}
+use Rattle.mu_model_distributor.specs.Commit.{work_to}
 use Rattle.mu_model_distributor.specs.DistState.{DistDurable, DistState}
 use Rattle.mu_model_distributor.specs.Same.{same_durable}
 use Rattle.mu_model_distributor_laws.specs.Laws.{RecordsSaySomething}

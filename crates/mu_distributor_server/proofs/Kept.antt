@@ -1,5 +1,5 @@
 -- What a note says can be kept in memory: it is in its ranges.
-use Rattle.std.proofs.Common.{◌≡◌, ℕ, zero, suc, ◌<◌, ◌≤◌, List, [], ◌∷◌, map, get_or, drop, refl, sym, ap, subst, arith}
+use Rattle.std.proofs.Common.{◌≡◌, ℕ, zero, suc, ◌<◌, List, [], ◌∷◌, map, get_or, drop, refl, sym, ap, subst, arith}
 use Rattle.mu_distmsg.specs.declared.message.ReceiverRow.{ReceiverRow}
 use Rattle.mu_model_distributor.specs.declared.Settings.{Settings}
 use Rattle.mu_model_distributor.specs.declared.DistPhase.{DistPhase}

@@ -6,3 +6,5 @@ pub mod Plugged
 pub mod Works
 pub mod Committed
 pub mod Ended
+pub mod Looked
+pub mod Asked

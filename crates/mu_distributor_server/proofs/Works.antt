@@ -1,12 +1,12 @@
 -- A record of a distributor, as its flash work.
-use Rattle.std.proofs.Common.{◌≡◌, ◌∙◌, ℕ, ◌+◌, ◌<◌, Bool, true, false, Option, Some, None, List, [], ◌∷◌, length, refl, sym, ap, subst, arith}
+use Rattle.std.proofs.Common.{◌≡◌, ◌∙◌, ℕ, ◌+◌, Bool, true, false, None, List, [], ◌∷◌, refl, sym, ap, subst, arith}
 use Rattle.std.proofs.lemmas.Slice.Zip.{AllZip-long}
 use Rattle.std.specs.List.{AllZip}
-use Rattle.std.specs.Prelude.{IfOk, IsTrue, Result, Ok, Err, MatchResult, if◌then◌else◌, ◌&&◌, nat_lt, ◌-◌, ◌^◌}
+use Rattle.std.specs.Prelude.{IfOk, Result, Ok, Err, MatchResult, if◌then◌else◌, ◌&&◌, nat_lt, ◌-◌, ◌^◌}
 use Rattle.mu_model_flash.specs.Flash.{Seen}
 use Rattle.mu_model_flash.specs.Laws.{RunLaws, RunsAreRead}
-use Rattle.mu_model_flash.specs.Run.{either, last_of, Ran, Broke, Goes}
-use Rattle.mu_model_node.specs.declared.FlashWork.TheVariants.{Untouched, Recorded}
+use Rattle.mu_model_flash.specs.Run.{either, last_of, Ran, Broke}
+use Rattle.mu_model_node.specs.declared.FlashWork.TheVariants.{Recorded}
 use Rattle.mu_model_node.specs.FlashWork.{work_by, fresh_after}
 use Rattle.mu_model_record.specs.declared.Record.{Record}
 use Rattle.mu_model_record.specs.Record.{IsRecord}

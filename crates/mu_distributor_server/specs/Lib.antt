@@ -3,3 +3,4 @@ pub mod Ways
 pub mod Shows
 pub mod Boots
 pub mod Events
+pub mod Requests

@@ -1,5 +1,5 @@
 -- Which states of the model's distributor a distributor over a flash shows, and which its flash represents (this profile).
-use Rattle.std.specs.Prelude.{◌≡◌, ℕ, List, [], Option, Some, None}
+use Rattle.std.specs.Prelude.{◌≡◌, [], Option, Some, None}
 use Rattle.mu_model_flash.specs.Flash.{Seen}
 use Rattle.mu_model_record.specs.Record.{capacity_of}
 use Rattle.mu_model_record.specs.Store.{StoreState}

@@ -6,8 +6,10 @@ mod booting;
 mod committing;
 mod distributor;
 mod judging;
+mod looking;
 mod plugging;
 mod readers;
+mod requests;
 mod ways;
 
 pub use distributor::Distributor;

@@ -1,4 +1,4 @@
-use Rattle.std.proofs.Common.{◌≡◌, ℕ, ap, sym}
+use Rattle.std.proofs.Common.{ℕ, ap}
 use Rattle.std.specs.Prelude.{◌==◌, not}
 use Rattle.mu_distributor_server.proofs.judging.lags.Goals as goal
 

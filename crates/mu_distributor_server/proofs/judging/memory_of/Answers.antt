@@ -1,9 +1,7 @@
-use Rattle.std.proofs.Common.{◌≡◌, ◌∙◌, ℕ, List, Option, Some, None, sym, ap, subst, arith}
+use Rattle.std.proofs.Common.{◌∙◌, List, sym, ap, subst, arith}
 use Rattle.mu_distmsg.specs.declared.message.ReceiverRow.{ReceiverRow}
 use Rattle.mu_model_node.specs.BlobServer.{Serving, serving_phase}
 use Rattle.mu_model_distributor.specs.DistEvents.{restarted}
-use Rattle.mu_model_distributor.specs.DistState.{DistDurable}
-use Rattle.mu_model_record.specs.Store.{StoreState}
 use Rattle.mu_model_represents.specs.BlobPart.{note_part}
 use Rattle.mu_model_represents_distributor.specs.RepresentsDistributor.{IsDistributorRecord, IsDistributorOf}
 use Rattle.mu_place.specs.Place.{place_record}
