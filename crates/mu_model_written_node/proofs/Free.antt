@@ -7,7 +7,7 @@ use Rattle.std.proofs.lemmas.List.{get_or_past}
 use Rattle.mu_model_record.specs.declared.Record.{Record}
 use Rattle.mu_model_record.specs.declared.BankState.{BankState}
 use Rattle.mu_model_record.specs.declared.BankState.TheVariants.{Empty}
-use Rattle.mu_model_record.specs.Record.{IsRecord, entry_of}
+use Rattle.mu_model_record.specs.Record.{IsRecord, IsFilling, entry_of}
 use Rattle.mu_model_represents.specs.Images.{IsSealed, is_among, AllDiffer}
 use Rattle.mu_model_represents.specs.NodeNote.{NodeNote, SpellsActive, SpellsNote, SpellsOldNote, IsNodeNote}
 use Rattle.mu_model_shown_node.specs.Shown.{InMemory, IsNodeMemory}
@@ -19,6 +19,13 @@ by_or false rest e = (refl, e)
 
 differ : (a b : ℕ) → (a == b) ≡ false → a ≢ b
 differ a b e = grind (arith, nat_tests)
+
+apart_by : (t : Bool) (a b : ℕ) → (a == b) ≡ t → a ≢ b → (a == b) ≡ false
+apart_by true a b e ne = absurd (ne (grind (arith, nat_tests)))
+apart_by false a b e ne = e
+
+pub apart_test : (a b : ℕ) → a ≢ b → (a == b) ≡ false
+apart_test a b ne = apart_by (a == b) a b refl ne
 
 below : (b n : ℕ) → (b < n) ⊎ (n ≤ b)
 below b n = grind arith
@@ -54,6 +61,12 @@ pub sealed_there : (r : Record) (b : ℕ) → IsRecord r → IsSealed (entry_of 
 sealed_there r b is sealed = elim (below b r.number) [
   | inl under ↦ under
   | inr past ↦ absurd (subst IsSealed (entry_past r b is past) sealed)
+]
+
+pub filling_within : (r : Record) (b : ℕ) → IsRecord r → IsFilling (entry_of r b) → b < r.number
+filling_within r b is filling = elim (below b r.number) [
+  | inl under ↦ under
+  | inr past ↦ absurd (subst IsFilling (entry_past r b is past) filling)
 ]
 
 pub all_there : (r : Record) (active : List ℕ) → IsRecord r → AllByRecursion (λ (b : ℕ). IsSealed (entry_of r b)) active → AllByRecursion (λ (b : ℕ). b < r.number) active

@@ -1,16 +1,21 @@
 -- What a store represents after a record.
-use Rattle.std.proofs.Common.{◌≡◌, ◌∙◌, ◌<◌, ◌≤◌, ◌^◌, ℕ, suc, ◌+◌, List, [], ◌∷◌, ◌++◌, length, Option, Some, None, refl, sym, ap, subst, arith}
-use Rattle.std.specs.Prelude.{◌≢◌, false}
+use Rattle.std.proofs.Common.{◌≡◌, ◌∙◌, ◌<◌, ◌≤◌, ◌^◌, ℕ, zero, suc, ◌+◌, Bool, true, set, List, [], ◌∷◌, ◌++◌, length, Option, Some, None, refl, sym, ap, subst, arith}
+use Rattle.std.specs.Prelude.{◌≢◌, ◌==◌, ◌||◌, false}
 use Rattle.std.specs.List.{AllByRecursion, AllZip}
+use Rattle.mu_model_image.specs.declared.Meta.{Meta}
 use Rattle.mu_model_image.specs.Meta.{Image, IsMeta}
 use Rattle.mu_model_record.specs.declared.Record.{Record}
+use Rattle.mu_model_record.specs.declared.BankState.{BankState}
+use Rattle.mu_model_record.specs.declared.BankState.TheVariants.{Sealed}
 use Rattle.mu_model_record.specs.Record.{IsRecord, IsFilling, entry_of}
 use Rattle.mu_model_record.specs.Store.{StoreState}
 use Rattle.mu_model_record.specs.Next.{record_steps}
 use Rattle.mu_model_record.specs.Changes.{tagged, emptied}
 use Rattle.mu_model_record.specs.ChangeLaws.{IsTag}
 use Rattle.mu_model_node.specs.declared.FlashWork.TheVariants.{Recorded}
+use Rattle.mu_model_node.specs.declared.Stored.{Stored}
 use Rattle.mu_model_node.specs.declared.Stored.TheVariants.{Verified, Applied}
+use Rattle.mu_model_node.specs.TimeTable.{image_of_job}
 use Rattle.mu_model_node.specs.FlashWork.{work_by}
 use Rattle.mu_model_node.specs.NodeState.{Job, NodeDurable}
 use Rattle.mu_model_node.specs.Sound.{IsNodeDurable}
@@ -19,15 +24,16 @@ use Rattle.mu_model_represents.specs.Images.{is_among, HasImage, BankImageIsGood
 use Rattle.mu_model_represents.specs.Laws.{NodeIsSound}
 use Rattle.mu_model_represents.specs.NodeNote.{NoteJob, NodeNote}
 use Rattle.mu_model_represents.specs.Numbers.{HasJobNumbers, HasNumbersOf, HasNodeNumbers}
-use Rattle.mu_model_represents.specs.RepresentsNode.{job_in, part_of_job, note_of_job, part_of_node, note_of_node, node_tag, IsNodeJob, HasNodeJob, job_by, IsNodeOf, IsNode}
+use Rattle.mu_model_represents.specs.RepresentsNode.{StoredGoesWith, job_in, part_of_job, note_of_job, part_of_node, note_of_node, node_tag, IsNodeJob, HasNodeJob, job_by, IsNodeOf, IsNode}
 use Rattle.mu_model_represents.specs.Short.{StoresAreReadAsNodes}
 use Rattle.mu_model_represents.specs.StoreStates.{IsStoreState}
 use Rattle.mu_model_represents.specs.Written.{KeepsJobs, KeepsNode, NodeTagIsATag, NodeTagIsReadBack}
 use Rattle.mu_model_jobs.specs.States.{TaggedIsAState, EmptiedIsAState}
-use Rattle.mu_model_stored_node.specs.Kept.{with_next, bank_of, HasJob, IsOffered, NodeIsKept, JobIsAsked, JobGoes, JobComes, NoJobIsLeft, FirstJobComes}
+use Rattle.mu_model_stored_node.specs.Kept.{with_next, bank_of, HasJob, IsOffered, NodeIsKept, JobIsAsked, JobGoes, JobComes, NoJobIsLeft, FirstJobComes, activated_as, JobIsActivated}
 use Rattle.mu_model_stored_node.specs.Steps.{NodeRecordSteps}
 use Rattle.mu_model_written_node.specs.Free.{IsFreeBank, FillsBank}
-use Rattle.mu_model_written_node.specs.Written.{CanWrite, IsWritten, tag_by, note_with, given_up, applied_note}
+use Rattle.mu_model_written_node.proofs.Free.{apart_test, filling_within}
+use Rattle.mu_model_written_node.specs.Written.{CanWrite, IsWritten, tag_by, note_with, given_up, applied_note, activated_note}
 
 zip_length : {A B : Type 0} (P : A → B → Type 0) (xs : List A) (ys : List B) → AllZip P xs ys → length xs ≡ length ys
 zip_length P [] [] all = refl
@@ -192,3 +198,62 @@ module _ (laws : Laws) (s : StoreState) (b : BlobJob) (n : NoteJob) (note : Node
       subst P applied_part
       (is_read laws s (Some b) note d bank can (tagged s tag) (Some j) is numbers state
       (law s tag note.active bank d (job_in s b n) (record { keeps = keeps laws s (Some b) note d bank can; job = job_is }) state.in_range stored) refl)
+
+-- ---- the image of a job becomes active
+
+length_set : {A : Type 0} (xs : List A) (i : ℕ) (x : A) → length (set xs i x) ≡ length xs
+length_set [] i x = refl
+length_set (y ∷ ys) zero x = refl
+length_set (y ∷ ys) (suc i) x = ap suc (length_set ys i x)
+
+all_set : {A : Type 0} (P : A → Type 0) (xs : List A) (i : ℕ) (x : A) → AllByRecursion P xs → P x → AllByRecursion P (set xs i x)
+all_set P [] i x all is = tt
+all_set P (y ∷ ys) zero x all is = (is, all.1)
+all_set P (y ∷ ys) (suc i) x all is = (all.0, all_set P ys i x all.1 is)
+
+-- no bank is being filled where all are Sealed
+sealed_isnt : (entry : BankState) (meta : Meta) → entry ≡ Sealed meta → IsFilling entry → ⊥
+sealed_isnt entry meta e filling = subst IsFilling e filling
+
+not_among_filling : BankImageIsGood → (s : StoreState) (active : List ℕ) (images : List Image) (f : ℕ) → AllZip (HasImage s) active images → IsFilling (entry_of s.present f) → is_among active f ≡ false
+not_among_filling good s [] images f all filling = refl
+not_among_filling good s (b ∷ active) [] f all filling = absurd all
+not_among_filling good s (b ∷ active) (x ∷ images) f all filling =
+    let ne : b ≢ f = λ e. sealed_isnt (entry_of s.present f) x.meta (subst (λ (k : ℕ). entry_of s.present k ≡ Sealed x.meta) e all.0.entry) filling in
+    ap (λ (t : Bool). t || is_among active f) (apart_test b f ne) ∙ not_among_filling good s active images f all.1 filling
+
+module _ (laws : Laws) (s : StoreState) (b : BlobJob) (n : NoteJob) (note : NodeNote) (d : NodeDurable) (bank : ℕ) (can : CanWrite s (Some b) note d bank) (has : note.job ≡ Some n) (stored : n.stored ≡ Applied) where
+  applied_entry : entry_of s.present b.bank ≡ Sealed n.meta
+  applied_entry = (subst (λ (q : Stored). StoredGoesWith q n.meta b.parameters (entry_of s.present b.bank)) stored (rule laws s b n note d bank can has).stored).1
+
+  none_filling : NoneFilling s.present
+  none_filling f filling =
+      let there = filling_within s.present f can.state.in_range filling in
+      let same : f ≡ bank = can.free.alone f there (not_among_filling laws.good s note.active d.images f can.is.images filling) in
+      sealed_isnt (entry_of s.present f) n.meta (subst (λ (k : ℕ). entry_of s.present k ≡ Sealed n.meta) (here_is laws s b n note d bank can has ∙ sym same) applied_entry) filling
+
+  pub activated : JobIsActivated → IsNodeDurable (activated_as d (job_in s b n))
+      → IsWritten s (tagged s (tag_by None (activated_note note b n))) None (activated_note note b n) d (activated_as d (job_in s b n))
+  activated law is =
+      let j : Job = job_in s b n in
+      let next = activated_as d j in
+      let at = here_is laws s b n note d bank can has in
+      let was = laws.sound s d can.state (here laws s (Some b) note d bank can) in
+      let of_job = numbers_of laws s b n note d bank can has in
+      let in_numbers : HasNodeNumbers next = numbers laws s (Some b) note d bank can (set d.images j.index (image_of_job j)) None (all_set (λ (x : Image). IsMeta x.meta) d.images j.index (image_of_job j) was.1.images of_job.meta) tt in
+      let active : List ℕ = set note.active n.index bank in
+      let octets = all_set (λ (k : ℕ). k < 256) note.active n.index bank (active_octets laws.good s can.state note.active d.images can.is.images) (few_banks laws s (Some b) note d bank can) in
+      let many : length active ≡ length next.images = length_set note.active n.index bank ∙ zip_length (HasImage s) note.active d.images can.is.images ∙ sym (length_set d.images j.index (image_of_job j)) in
+      let tag = tag_by None (record { active = active; job = None }) in
+      let a_tag = laws.a_tag active bank next is in_numbers many octets (few_banks laws s (Some b) note d bank can) in
+      let state = laws.tagged s tag can.state can.counted a_tag.0 in
+      let kept = law s tag note.active bank d j can.state (record { keeps = keeps laws s (Some b) note d bank can; job = job_is laws s b n note d bank can has }) state.in_range none_filling stored in
+      let node = laws.read_back (tagged s tag) active bank next is in_numbers kept refl in
+      let zipped = λ (fresh : ℕ). laws.steps fresh s (tagged s tag) d next state (here laws s (Some b) note d bank can) (None, record { active = active; job = None }, node) in
+      let P : ℕ → Type 0 = λ k. IsWritten s (tagged s (tag_by None (record { active = set note.active n.index k; job = None }))) None (record { active = set note.active n.index k; job = None }) d next in
+      subst P (sym at) (record {
+        state = state;
+        is = node;
+        as_many = λ fresh. zip_length IsNode (record_steps fresh s (tagged s tag)) (work_by fresh d next (Recorded false)) (zipped fresh);
+        reads = λ fresh. laws.nodes s (record_steps fresh s (tagged s tag)) d (work_by fresh d next (Recorded false)) (here laws s (Some b) note d bank can) (zipped fresh);
+      })

@@ -1,5 +1,5 @@
 -- What the record of each row makes of a store that represents a node: the tag is read back (this profile).
-use Rattle.std.specs.Prelude.{◌≡◌, ◌++◌, ◌<◌, ℕ, false, List, Option, Some, None, length}
+use Rattle.std.specs.Prelude.{◌≡◌, ◌++◌, ◌<◌, ℕ, false, List, Option, Some, None, length, set}
 use Rattle.mu_model_flash.specs.Run.{either, Refines}
 use Rattle.mu_model_record.specs.Represents.{RepresentsStore}
 use Rattle.mu_model_record.specs.Store.{StoreState}
@@ -16,7 +16,7 @@ use Rattle.mu_model_represents.specs.NodeNote.{NoteJob, NodeNote, note_octets}
 use Rattle.mu_model_represents.specs.Numbers.{HasJobNumbers}
 use Rattle.mu_model_represents.specs.RepresentsNode.{job_in, part_of_job, note_of_job, IsNodeOf, RepresentsNode}
 use Rattle.mu_model_represents.specs.StoreStates.{IsStoreState}
-use Rattle.mu_model_stored_node.specs.Kept.{with_next, IsOffered}
+use Rattle.mu_model_stored_node.specs.Kept.{with_next, IsOffered, activated_as}
 use Rattle.mu_model_written_node.specs.Free.{IsFreeBank, FillsBank}
 
 -- a store that represents a node, whose record isn't the last that can be, and the bank that isn't active
@@ -68,3 +68,13 @@ AppliedIsWritten =
     (s : StoreState) (b : BlobJob) (n : NoteJob) (note : NodeNote) (d : NodeDurable) (bank : ℕ) → CanWrite s (Some b) note d bank → note.job ≡ Some n → n.stored ≡ Verified
     → IsNodeDurable (with_next d (Some (record (job_in s b n) { stored = Applied })))
     → IsWritten s (tagged s (tag_by (Some b) (note_with note (Some (applied_note n))))) (Some b) (note_with note (Some (applied_note n))) d (with_next d (Some (record (job_in s b n) { stored = Applied })))
+
+-- its image becomes the active one of its index, and the job goes
+abbrev pub activated_note : NodeNote → BlobJob → NoteJob → NodeNote
+activated_note note b n = record { active = set note.active n.index b.bank; job = None }
+
+abbrev pub ActivatedIsWritten : Type 0
+ActivatedIsWritten =
+    (s : StoreState) (b : BlobJob) (n : NoteJob) (note : NodeNote) (d : NodeDurable) (bank : ℕ) → CanWrite s (Some b) note d bank → note.job ≡ Some n → n.stored ≡ Applied
+    → IsNodeDurable (activated_as d (job_in s b n))
+    → IsWritten s (tagged s (tag_by None (activated_note note b n))) None (activated_note note b n) d (activated_as d (job_in s b n))

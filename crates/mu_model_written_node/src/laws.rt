@@ -2,7 +2,7 @@
 
 ghost use Rattle.mu_model_written_node.specs.Free.{OneBankIsFree, ActiveBanksAreThere};
 ghost use Rattle.mu_model_written_node.specs.Memory.{WrittenIsANode, WrittenIsShort, NodeNoteFits};
-ghost use Rattle.mu_model_written_node.specs.Written.{LostIsWritten, TakenIsWritten, AppliedIsWritten};
+ghost use Rattle.mu_model_written_node.specs.Written.{LostIsWritten, TakenIsWritten, AppliedIsWritten, ActivatedIsWritten};
 
 use mu_model_flash::laws::ranges_of_octets;
 use mu_model_image::laws::metadata;
@@ -40,6 +40,7 @@ pub fn written_in_a_store()
     ensures lost { LostIsWritten }
     ensures taken { TakenIsWritten }
     ensures applied { AppliedIsWritten }
+    ensures activated { ActivatedIsWritten }
 {
     states_stay();
     images_of_banks();

@@ -1,4 +1,4 @@
-use Rattle.mu_model_written_node.proofs.Written.{Laws, lost, taken, applied}
+use Rattle.mu_model_written_node.proofs.Written.{Laws, lost, taken, applied, activated}
 use Rattle.mu_model_written_node.proofs.laws.written_in_a_store.Goals as goal
 
 pub returns-clause-lost : goal.returns-clause-lost
@@ -42,3 +42,17 @@ returns-clause-applied c s b n note d bank can has stored is =
       steps = c.node_steps.ensures.one_record;
       nodes = c.runs_are_read.ensures.nodes;
     }) s b n note d bank can has) c.node_is_kept.ensures.asked stored is
+
+pub returns-clause-activated : goal.returns-clause-activated
+returns-clause-activated c s b n note d bank can has stored is =
+    (activated (record {
+      good = c.images_of_banks.ensures.good;
+      sound = c.represented_is_sound.ensures.node;
+      tagged = c.states_stay.ensures.tagged;
+      emptied = c.states_stay.ensures.emptied;
+      a_tag = c.written_node.ensures.tag;
+      read_back = c.written_node.ensures.read_back;
+      kept = c.node_is_kept.ensures.kept;
+      steps = c.node_steps.ensures.one_record;
+      nodes = c.runs_are_read.ensures.nodes;
+    }) s b n note d bank can has stored) c.node_is_kept.ensures.activated is
