@@ -8,3 +8,4 @@ pub mod Memory
 pub mod RamLink
 pub mod SetClock
 pub mod Stream
+pub mod Written
