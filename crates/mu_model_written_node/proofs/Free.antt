@@ -1,11 +1,10 @@
 -- The one bank that isn't active.
-use Rattle.std.proofs.Common.{◌≡◌, ◌∙◌, ◌<◌, ◌≤◌, ◌⊎◌, inl, inr, ℕ, zero, suc, ◌+◌, Bool, true, false, List, [], ◌∷◌, length, refl, sym, ap, subst, arith}
-use Rattle.std.specs.Prelude.{◌≢◌, ◌==◌, ◌||◌, slice_index_or}
+use Rattle.std.proofs.Common.{◌≡◌, ◌<◌, ◌≤◌, ◌⊎◌, inl, inr, ℕ, ◌+◌, Bool, true, false, List, [], ◌∷◌, length, refl, sym, subst, arith}
+use Rattle.std.specs.Prelude.{◌≢◌, ◌==◌, ◌||◌}
 use Rattle.std.specs.List.{AllByRecursion}
 use Rattle.std.proofs.lemmas.Bool.Decides.{nat_tests}
 use Rattle.std.proofs.lemmas.List.{get_or_past}
 use Rattle.mu_model_record.specs.declared.Record.{Record}
-use Rattle.mu_model_record.specs.declared.BankState.{BankState}
 use Rattle.mu_model_record.specs.declared.BankState.TheVariants.{Empty}
 use Rattle.mu_model_record.specs.Record.{IsRecord, IsFilling, entry_of}
 use Rattle.mu_model_represents.specs.Images.{IsSealed, is_among, AllDiffer}

@@ -1,13 +1,13 @@
 -- What a store represents after a record.
-use Rattle.std.proofs.Common.{◌≡◌, ◌∙◌, ◌<◌, ◌≤◌, ◌^◌, ℕ, zero, suc, ◌+◌, Bool, true, set, List, [], ◌∷◌, ◌++◌, length, Option, Some, None, refl, sym, ap, subst, arith}
-use Rattle.std.specs.Prelude.{◌≢◌, ◌==◌, ◌||◌, false}
+use Rattle.std.proofs.Common.{◌≡◌, ◌∙◌, ◌<◌, ℕ, zero, suc, ◌+◌, Bool, set, List, [], ◌∷◌, length, Option, Some, None, refl, sym, ap, subst, arith}
+use Rattle.std.specs.Prelude.{◌≢◌, ◌||◌, false}
 use Rattle.std.specs.List.{AllByRecursion, AllZip}
 use Rattle.mu_model_image.specs.declared.Meta.{Meta}
 use Rattle.mu_model_image.specs.Meta.{Image, IsMeta}
 use Rattle.mu_model_record.specs.declared.Record.{Record}
 use Rattle.mu_model_record.specs.declared.BankState.{BankState}
 use Rattle.mu_model_record.specs.declared.BankState.TheVariants.{Sealed}
-use Rattle.mu_model_record.specs.Record.{IsRecord, IsFilling, entry_of}
+use Rattle.mu_model_record.specs.Record.{IsFilling, entry_of}
 use Rattle.mu_model_record.specs.Store.{StoreState}
 use Rattle.mu_model_record.specs.Next.{record_steps}
 use Rattle.mu_model_record.specs.Changes.{tagged, emptied}
@@ -29,7 +29,7 @@ use Rattle.mu_model_represents.specs.Short.{StoresAreReadAsNodes}
 use Rattle.mu_model_represents.specs.StoreStates.{IsStoreState}
 use Rattle.mu_model_represents.specs.Written.{KeepsJobs, KeepsNode, NodeTagIsATag, NodeTagIsReadBack}
 use Rattle.mu_model_jobs.specs.States.{TaggedIsAState, EmptiedIsAState}
-use Rattle.mu_model_stored_node.specs.Kept.{with_next, bank_of, HasJob, IsOffered, NodeIsKept, JobIsAsked, JobGoes, JobComes, NoJobIsLeft, FirstJobComes, activated_as, JobIsActivated}
+use Rattle.mu_model_stored_node.specs.Kept.{with_next, bank_of, IsOffered, NodeIsKept, JobIsAsked, JobGoes, JobComes, NoJobIsLeft, FirstJobComes, activated_as, JobIsActivated}
 use Rattle.mu_model_stored_node.specs.Steps.{NodeRecordSteps}
 use Rattle.mu_model_written_node.specs.Free.{IsFreeBank, FillsBank}
 use Rattle.mu_model_written_node.proofs.Free.{apart_test, filling_within}

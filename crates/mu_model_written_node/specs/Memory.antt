@@ -1,10 +1,10 @@
 -- The record that a node writes next, as the node has it in memory (this profile).
-use Rattle.std.specs.Prelude.{◌≡◌, ◌+◌, ℕ, false, Option}
+use Rattle.std.specs.Prelude.{◌≡◌, ℕ, false}
 use Rattle.mu_model_record.specs.Record.{IsRecord}
 use Rattle.mu_model_record.specs.Next.{fresh_after}
 use Rattle.mu_model_node.specs.FlashWork.{fresh_after as fresh_left}
 use Rattle.mu_model_represents.specs.BlobPart.{note_part, IsBlobRecord}
-use Rattle.mu_model_represents.specs.NodeNote.{NoteJob, note_octets}
+use Rattle.mu_model_represents.specs.NodeNote.{note_octets}
 use Rattle.mu_model_represents.specs.Notes.{NoteFits}
 use Rattle.mu_model_represents.specs.RepresentsNode.{HasNodeJob}
 use Rattle.mu_model_shown_node.specs.Shown.{InMemory, IsNodeMemory}

@@ -1,5 +1,5 @@
 -- What the record of each row makes of a store that represents a node: the tag is read back (this profile).
-use Rattle.std.specs.Prelude.{◌≡◌, ◌++◌, ◌<◌, ℕ, false, List, Option, Some, None, length, set}
+use Rattle.std.specs.Prelude.{◌≡◌, ◌++◌, ℕ, false, List, Option, Some, None, length, set}
 use Rattle.mu_model_flash.specs.Run.{either, Refines}
 use Rattle.mu_model_record.specs.Represents.{RepresentsStore}
 use Rattle.mu_model_record.specs.Store.{StoreState}

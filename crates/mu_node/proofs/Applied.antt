@@ -1,5 +1,5 @@
 -- An update that is to be applied.
-use Rattle.std.proofs.Common.{◌≡◌, ◌∙◌, ℕ, ◌+◌, List, Option, Some, None, refl, sym, ap, subst}
+use Rattle.std.proofs.Common.{◌≡◌, ◌∙◌, ℕ, List, Option, Some, None, refl, sym, ap, subst}
 use Rattle.std.specs.Prelude.{false}
 use Rattle.std.specs.Option.{option_map}
 use Rattle.mu_model_record.specs.declared.Record.{Record}
@@ -9,7 +9,6 @@ use Rattle.mu_model_record.specs.Changes.{next_record, tagged}
 use Rattle.mu_model_node.specs.declared.Stored.{Stored}
 use Rattle.mu_model_node.specs.declared.Stored.TheVariants.{Verified, Applied}
 use Rattle.mu_model_node.specs.declared.FlashWork.TheVariants.{Recorded}
-use Rattle.mu_model_node.specs.declared.FlashWork.{FlashWork}
 use Rattle.mu_model_node.specs.FlashWork.{fresh_after as fresh_left}
 use Rattle.mu_model_node.specs.Slots.{Slots, received}
 use Rattle.mu_model_node.specs.NodeState.{Job, NodeState}
@@ -17,7 +16,7 @@ use Rattle.mu_model_node.specs.Sound.{IsNodeDurable}
 use Rattle.mu_model_represents.specs.BlobPart.{BlobJob, IsBlobRecord}
 use Rattle.mu_model_represents.specs.NodeNote.{NoteJob, NodeNote, note_octets}
 use Rattle.mu_model_represents.specs.Notes.{FitsNote, NoteFits}
-use Rattle.mu_model_represents.specs.RepresentsNode.{job_in, job_by, IsNodeJob, StoredGoesWith, HasNodeJob}
+use Rattle.mu_model_represents.specs.RepresentsNode.{job_in, job_by, StoredGoesWith, HasNodeJob}
 use Rattle.mu_model_stored_node.specs.Kept.{with_next}
 use Rattle.mu_model_shown_node.specs.Shown.{IsNodeMemory, job_with, IsShown}
 use Rattle.mu_model_shown_node.specs.Next.{JobGoesOn}

@@ -1,6 +1,6 @@
 -- The run of a record, read as a node's.
-use Rattle.std.proofs.Common.{◌≡◌, ◌∙◌, ◌<◌, ◌≤◌, ◌^◌, ℕ, ◌+◌, ◌-◌, List, [], ◌∷◌, Bool, true, false, Option, Some, None, refl, sym, ap, subst, arith}
-use Rattle.std.specs.Prelude.{◌≢◌, ◌&&◌, nat_lt, ◌↔◌, Result, Ok, Err, IsErrAnd, if◌then◌else◌, IsTrue}
+use Rattle.std.proofs.Common.{◌≡◌, ◌^◌, ℕ, ◌-◌, List, [], ◌∷◌, Bool, true, false, Option, refl, sym, subst, arith}
+use Rattle.std.specs.Prelude.{◌≢◌, ◌&&◌, nat_lt, ◌↔◌, if◌then◌else◌}
 use Rattle.mu_model_flash.specs.Flash.{Seen}
 use Rattle.mu_model_flash.specs.Laws.{RunLaws, RunsAreRead}
 use Rattle.mu_model_flash.specs.Run.{either, last_of, Ran, Broke}
@@ -16,7 +16,7 @@ use Rattle.mu_model_node.specs.NodeOutcome.{Outcome}
 use Rattle.mu_model_node.specs.NodeState.{NodeDurable, NodeState}
 use Rattle.mu_model_represents.specs.BlobPart.{BlobJob}
 use Rattle.mu_model_represents.specs.NodeNote.{NodeNote}
-use Rattle.mu_model_represents.specs.RepresentsNode.{IsNodeOf, RepresentsNode}
+use Rattle.mu_model_represents.specs.RepresentsNode.{RepresentsNode}
 use Rattle.mu_model_written_node.specs.Written.{IsWritten}
 use Rattle.mu_store.specs.declared.faults.StoreFault.{StoreFault}
 use Rattle.mu_store.specs.declared.faults.StoreFault.TheVariants.{Flash, Worn}
@@ -25,7 +25,7 @@ use Rattle.mu_place.specs.declared.place.Place.TheVariants.{Rest, Fill, Halted}
 use Rattle.mu_place.specs.Place.{place_flash, place_seen, place_fresh, PlaceHolds}
 use Rattle.mu_node.specs.declared.node.Node.{Node}
 use Rattle.mu_node.specs.Views.{place_in, seen_of, memory_of}
-use Rattle.mu_node.specs.Ways.{Way, as_store, as_node, StateOf, reading_of}
+use Rattle.mu_node.specs.Ways.{as_store, as_node, StateOf, reading_of}
 use Rattle.mu_node.specs.Does.{HasOnFlash}
 
 -- ---- it isn't the last

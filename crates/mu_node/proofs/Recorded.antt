@@ -1,5 +1,5 @@
 -- A node in memory after a record.
-use Rattle.std.proofs.Common.{◌≡◌, ◌∙◌, ◌<◌, ◌≤◌, ◌⊎◌, inl, inr, ℕ, ◌+◌, List, [], ◌∷◌, Bool, true, false, Option, Some, None, refl, sym, ap, subst, arith}
+use Rattle.std.proofs.Common.{◌≡◌, ◌∙◌, ℕ, List, [], ◌∷◌, Bool, true, false, Option, Some, None, refl, sym, ap, subst, arith}
 use Rattle.std.specs.Prelude.{◌≢◌, ◌==◌, ◌||◌, IfSome}
 use Rattle.std.specs.List.{AllByRecursion}
 use Rattle.std.specs.Option.{option_map}
@@ -13,15 +13,15 @@ use Rattle.mu_model_record.specs.Changes.{next_record}
 use Rattle.mu_model_node.specs.Slots.{Slots, received}
 use Rattle.mu_model_node.specs.NodeState.{NodeDurable}
 use Rattle.mu_model_node.specs.FlashWork.{fresh_after as fresh_left}
-use Rattle.mu_model_represents.specs.BlobPart.{note_part, IsBlobRecord}
+use Rattle.mu_model_represents.specs.BlobPart.{IsBlobRecord}
 use Rattle.mu_model_represents.specs.Images.{IsSealed, is_among}
 use Rattle.mu_model_represents.specs.NodeNote.{note_octets}
 use Rattle.mu_model_represents.specs.Notes.{NoteFits}
 use Rattle.mu_model_represents.specs.RepresentsNode.{HasNodeJob}
 use Rattle.mu_model_stored_node.specs.Kept.{with_next}
-use Rattle.mu_model_shown_node.specs.Shown.{InMemory, IsNodeMemory, job_with, IsShown}
+use Rattle.mu_model_shown_node.specs.Shown.{IsNodeMemory, job_with, IsShown}
 use Rattle.mu_model_shown_node.specs.Next.{ActiveStay, IsNext, NextIsShown, OthersStay}
-use Rattle.mu_model_written_node.specs.Memory.{IsWrittenNext, WrittenIsANode, WrittenIsShort}
+use Rattle.mu_model_written_node.specs.Memory.{WrittenIsANode, WrittenIsShort}
 use Rattle.mu_note.specs.declared.blob.BlobJob.{BlobJob}
 use Rattle.mu_note.specs.declared.node.NodeNote.{NodeNote as NoteHere}
 use Rattle.mu_note.specs.Views.{part_job, note_job, node_note, active_banks}

@@ -1,35 +1,27 @@
 -- Steps that write nothing, and what a step that writes was decided over.
-use Rattle.std.proofs.Common.{◌≡◌, ◌∙◌, ◌<◌, ◌≤◌, ℕ, zero, suc, Bool, true, false, List, [], ◌∷◌, map, Option, Some, None, refl, sym, ap, subst, arith}
-use Rattle.std.specs.Prelude.{IsSomeAnd, slice_get, if◌then◌else◌}
-use Rattle.std.specs.List.{AllByRecursion}
+use Rattle.std.proofs.Common.{◌≡◌, ◌≤◌, ℕ, true, false, [], ◌∷◌, Option, Some, None, refl, arith}
+use Rattle.std.specs.Prelude.{if◌then◌else◌}
 use Rattle.mu_model_flash.specs.Flash.{Seen}
 use Rattle.mu_model_flash.specs.Laws.{RunLaws}
 use Rattle.mu_model_flash.specs.Run.{either, Ran}
-use Rattle.mu_model_record.specs.declared.Record.{Record}
-use Rattle.mu_model_record.specs.declared.BankState.{BankState}
-use Rattle.mu_model_record.specs.declared.BankState.TheVariants.{Empty, Filling, Sealed}
-use Rattle.mu_model_record.specs.Record.{entry_of}
 use Rattle.mu_model_record.specs.Represents.{RepresentsStore}
 use Rattle.mu_model_node.specs.declared.Link.{Link}
 use Rattle.mu_model_node.specs.declared.Link.TheVariants.{Cut, Ready, Running}
 use Rattle.mu_model_node.specs.BlobServer.{Session, made_ready, heard_at}
 use Rattle.mu_model_node.specs.NodeMessages.{ByUpdate}
-use Rattle.mu_model_node.specs.NodeState.{Job, NodeDurable, NodeState}
+use Rattle.mu_model_node.specs.NodeState.{Job, NodeState}
 use Rattle.mu_model_node.specs.UpdateTable.{update_status}
-use Rattle.mu_model_represents.specs.Images.{IsSealed}
-use Rattle.mu_model_represents.specs.RepresentsNode.{IsNewerThan, IsNewerThanBank, RepresentsNode}
+use Rattle.mu_model_represents.specs.RepresentsNode.{RepresentsNode}
 use Rattle.mu_model_represents.specs.Short.{StoresAreReadAsNodes}
-use Rattle.mu_model_stored_node.specs.NodeIn.{meta_in}
 use Rattle.mu_update_rows.specs.Fits.{IsKnown, is_cut}
 use Rattle.mu_update_rows.specs.Rows.{applied_with, update_stepped}
 use Rattle.mu_update_rows.specs.declared.table.UpdateStep.{UpdateStep}
 use Rattle.mu_update_rows.specs.declared.table.UpdateStep.TheVariants.{MakeReady, Hear, Take, Lose, Apply, Answer}
-use Rattle.mu_place.specs.Place.{place_seen}
 use Rattle.mu_blob_session.specs.Blocks.{is_cut_link, resumed}
 use Rattle.mu_node.specs.declared.node.Node.{Node}
 use Rattle.mu_node.specs.Views.{place_in, memory_of, seen_of, Holds}
 use Rattle.mu_node.specs.Steps.{status_by}
-use Rattle.mu_node.specs.Ways.{Way, as_store, as_node, StateOf, reading_of}
+use Rattle.mu_node.specs.Ways.{as_store, as_node, StateOf, reading_of}
 use Rattle.mu_node.specs.Does.{HasOnFlash}
 use Rattle.mu_node.proofs.Ran.{reads}
 

@@ -1,23 +1,20 @@
 -- A node after an event, in a state that can be.
-use Rattle.std.proofs.Common.{◌≡◌, ◌∙◌, ◌<◌, ◌≤◌, max, ℕ, Option, Some, None, refl, sym, ap, subst, arith}
+use Rattle.std.proofs.Common.{◌≡◌, subst}
 use Rattle.std.specs.Prelude.{IfOk, Result, Ok, Err}
 use Rattle.mu_model_flash.specs.Flash.{Seen}
 use Rattle.mu_model_flash.specs.Run.{either, Ran, Broke}
-use Rattle.mu_model_record.specs.Store.{StoreState}
 use Rattle.mu_model_node.specs.FlashWork.{work_by}
-use Rattle.mu_model_node.specs.NodeState.{NodeDurable, NodeState}
+use Rattle.mu_model_node.specs.NodeState.{NodeState}
 use Rattle.mu_model_node.specs.NodeOutcome.{Outcome}
 use Rattle.mu_model_node.specs.Sound.{IsNodeState}
-use Rattle.mu_model_node.specs.Events.{at_moment}
 use Rattle.mu_model_serving.specs.Laws.{IsLinked}
 use Rattle.mu_model_represents.specs.RepresentsNode.{RepresentsNode}
 use Rattle.mu_store.specs.declared.faults.StoreFault.{StoreFault}
 use Rattle.mu_place.specs.declared.place.Place.{Place}
-use Rattle.mu_place.specs.declared.place.Place.TheVariants.{Rest, Fill, Halted}
-use Rattle.mu_place.specs.Place.{place_fault, place_seen, PlaceHolds}
+use Rattle.mu_place.specs.Place.{place_seen}
 use Rattle.mu_node.specs.declared.node.Node.{Node}
-use Rattle.mu_node.specs.Views.{place_in, seen_of, Shows, Holds}
-use Rattle.mu_node.specs.Does.{HasInMemory, HasOnFlash, NodeGoes, NodeRuns}
+use Rattle.mu_node.specs.Views.{place_in, seen_of, Shows}
+use Rattle.mu_node.specs.Does.{HasInMemory, NodeGoes, NodeRuns}
 
 pub shows_of : {F : Type 0} {g : _} (node : Node F g) (n : NodeState) → HasInMemory node n → IsNodeState n → IsLinked n → Shows node n
 shows_of node n has sound linked = record { kept = has.kept; fresh = has.fresh; session = has.session; moment = has.moment; sound = sound; linked = linked }

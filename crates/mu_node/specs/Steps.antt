@@ -1,6 +1,5 @@
 -- What a step of the update table is decided over, as the node has it in memory, and which fault may come of it.
-use Rattle.std.specs.Prelude.{◌≡◌, ℕ, Bool, true, false, map, Option, IsSome, IsSomeAnd, IfSome, IsOk, IfErr, Result, is_some}
-use Rattle.mu_model_image.specs.declared.Meta.{Meta}
+use Rattle.std.specs.Prelude.{◌≡◌, ℕ, true, map, Option, IsSomeAnd, IfSome, IsOk, IfErr, Result, is_some}
 use Rattle.mu_model_record.specs.Record.{entry_of, capacity_of}
 use Rattle.mu_model_node.specs.declared.FlashWork.{FlashWork}
 use Rattle.mu_model_node.specs.declared.FlashWork.TheVariants.{Untouched, Recorded, Begun, PutBlock}

@@ -1,5 +1,5 @@
 -- The numbers of an update that is taken are those of their types.
-use Rattle.std.specs.Prelude.{ℕ, ◌<◌, ◌^◌}
+use Rattle.std.specs.Prelude.{◌<◌, ◌^◌}
 use Rattle.mu_update_rows.specs.declared.table.NewJob.{NewJob}
 
 pub record HasNumbers (what : NewJob) : Type 0 where

@@ -1,4 +1,4 @@
-use Rattle.mu_model_written_node.proofs.Written.{Laws, lost, taken, applied, activated}
+use Rattle.mu_model_written_node.proofs.Written.{lost, taken, applied, activated}
 use Rattle.mu_model_written_node.proofs.laws.written_in_a_store.Goals as goal
 
 pub returns-clause-lost : goal.returns-clause-lost

@@ -1,8 +1,7 @@
-use Rattle.std.proofs.Common.{◌≡◌, ◌∙◌, ◌≤◌, ℕ, [], ◌∷◌, ◌++◌, map, sym, ap, subst}
+use Rattle.std.proofs.Common.{◌∙◌, ◌≤◌, ℕ, [], ◌∷◌, ◌++◌, map, sym, ap, subst}
 use Rattle.mu_model_node.specs.NodeMessages.{ByUpdate, reply_packet}
 use Rattle.mu_codec.specs.View.{packet_of}
 use Rattle.mu_model_node.specs.UpdateTable.{update_status}
-use Rattle.mu_model_node.specs.UpdateMessages.{UpdateReply}
 use Rattle.mu_update_rows.specs.Rows.{update_stepped}
 use Rattle.mu_node.proofs.Stepped.{known_status, step_replies}
 use Rattle.mu_node.proofs.node.Node.answer_step.Goals as goal

@@ -1,6 +1,5 @@
-use Rattle.std.proofs.Common.{◌≡◌, ◌∙◌, sym, ap, subst, [], List}
+use Rattle.std.proofs.Common.{◌∙◌, sym, ap, subst, []}
 use Rattle.mu_model_flash.specs.Run.{either, Ran}
-use Rattle.mu_model_node.specs.NodeState.{NodeDurable}
 use Rattle.mu_model_represents.specs.RepresentsNode.{RepresentsNode}
 use Rattle.mu_place.specs.declared.place.Place.{Place}
 use Rattle.mu_place.specs.Place.{place_seen}

@@ -1,17 +1,15 @@
-use Rattle.std.proofs.Common.{◌≡◌, ◌∙◌, ℕ, List, [], Option, Some, None, refl, sym, ap, subst}
+use Rattle.std.proofs.Common.{◌∙◌, ℕ, List, [], None, refl, sym, ap, subst}
 use Rattle.std.specs.Option.{option_map}
 use Rattle.mu_model_record.specs.declared.Record.{Record}
 use Rattle.mu_model_record.specs.ChangeLaws.{IsNotLast}
 use Rattle.mu_model_record.specs.Store.{StoreState}
-use Rattle.mu_model_node.specs.NodeState.{NodeState}
 use Rattle.mu_model_node.specs.BlobServer.{unlinked}
-use Rattle.mu_model_node.specs.UpdateTable.{without_job}
 use Rattle.mu_model_represents.specs.NodeNote.{note_octets}
 use Rattle.mu_model_stored_node.specs.Kept.{with_next}
 use Rattle.mu_model_written_node.specs.Free.{IsFreeBank, FillsBank}
 use Rattle.mu_model_written_node.specs.Written.{CanWrite, IsWritten, note_with}
 use Rattle.mu_note.specs.declared.node.NodeNote.{NodeNote}
-use Rattle.mu_note.specs.Views.{part_job, note_job, node_note, active_banks}
+use Rattle.mu_note.specs.Views.{part_job, node_note, active_banks}
 use Rattle.mu_place.specs.Place.{place_record, place_filling}
 use Rattle.mu_kept.specs.Calls.{given_up, banks_given_up}
 use Rattle.mu_kept.specs.Tags.{tag_with}
