@@ -1,5 +1,5 @@
-//! A distributor over a flash (MshDFU, Firmware Distribution Server; in this profile): its boot, what it shows, and its requests on receivers,
-//! images and uploads. Each that changes what is kept writes one record before it is answered.
+//! A distributor over a flash (MshDFU, Firmware Distribution Server; in this profile): its boot, what it shows, its requests on
+//! receivers and those that only ask. Each that changes what is kept writes one record before it is answered.
 #![tactic(auto)]
 
 mod booting;
