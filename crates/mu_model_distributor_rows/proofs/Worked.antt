@@ -5,6 +5,7 @@ use Rattle.mu_model_wire.specs.Reading.{word_at, octets_at, opcode_at, pattern_a
 use Rattle.mu_model_distributor_rows.specs.Tables.{EachPhase, EachUpload}
 use Rattle.mu_model_distributor_rows.specs.Runs.{Distributions, Uploads}
 use Rattle.mu_model_distributor_rows.specs.Banks.{EachBank}
+use Rattle.mu_model_distributor_rows.specs.Crowds.{EachCrowd}
 use Rattle.mu_model_distributor_rows.specs.Progress.{EachProgress}
 
 pub each_phase : EachPhase
@@ -14,6 +15,10 @@ each_phase = record { empty = refl; ready = refl; active = refl; success = refl;
 pub each_upload : EachUpload
 unfolding word_at octets_at opcode_at pattern_at sha256 digest_bytes hash_after compress rounds schedule first_words
 each_upload = record { uploading = refl; receiving = refl; whole = refl; broken = refl; stored = refl }
+
+pub each_crowd : EachCrowd
+unfolding word_at octets_at opcode_at pattern_at
+each_crowd = record { twice = refl; known = refl; two = refl; there = refl; more = refl }
 
 pub distributions : Distributions
 unfolding word_at octets_at opcode_at pattern_at sha256 digest_bytes hash_after compress rounds schedule first_words

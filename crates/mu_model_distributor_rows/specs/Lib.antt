@@ -8,3 +8,4 @@ pub mod RunsOfUploads
 pub mod Runs
 pub mod Banks
 pub mod Progress
+pub mod Crowds

@@ -6,7 +6,7 @@ use Rattle.hex.specs.Hex.{decode_pairs, encode_with}
 use Rattle.mu_model_script.specs.Lines.{value_at}
 use Rattle.mu_model_mesh.specs.Mesh.{new_mesh}
 use Rattle.mu_model_mesh.specs.MeshRun.{MeshStep}
-use Rattle.mu_model_mesh_worked.specs.Ended.{ScriptsEnd}
+use Rattle.mu_model_mesh_worked.specs.Ended.{WorkedEnds}
 
 silent_step : MeshStep new_mesh (codes "#") [] new_mesh
 silent_step = record { done = (refl, refl) }
@@ -14,7 +14,7 @@ silent_step = record { done = (refl, refl) }
 empty_step : MeshStep new_mesh [] [] new_mesh
 empty_step = record { done = (refl, refl) }
 
-pub scripts_end : ScriptsEnd
+pub scripts_end : WorkedEnds
 unfolding value_at decode_pairs encode_with digits
 scripts_end = record {
   empty = record { read = refl; within = ⊎_elim (λ p. omega (arith, p)) (λ p. omega (arith, p)); run = (refl, refl) };

@@ -4,7 +4,7 @@ use Rattle.mu_model_mesh.specs.Mesh.{new_mesh}
 use Rattle.mu_model_mesh_runs.specs.Ends.{IsWhole, IsRefused}
 use Rattle.mu_model_mesh_runs.specs.Laws.{mesh_lines}
 
-pub record ScriptsEnd : Type 0 where
+pub record WorkedEnds : Type 0 where
   -- nothing is done, and nothing is printed
   pub empty : IsWhole mesh_lines [] [] [] new_mesh
   -- comments and empty lines print nothing

@@ -1,7 +1,7 @@
 //! A law of the definitions: a function that does nothing, whose contract is proved.
 
 ghost use Rattle.mu_model_mesh_worked.specs.Completed.{AScriptCompletes};
-ghost use Rattle.mu_model_mesh_worked.specs.Ended.{ScriptsEnd};
+ghost use Rattle.mu_model_mesh_worked.specs.Ended.{WorkedEnds};
 
 use mu_model_mesh_completion::laws::{scripts_complete, worlds_of_scripts};
 use mu_model_mesh_rows::rows::settles;
@@ -18,5 +18,5 @@ pub fn a_script_completes()
 
 /// How an empty script, one of silent lines and two that are refused end, octet by octet.
 pub fn scripts_end()
-    ensures { ScriptsEnd }
+    ensures { WorkedEnds }
 {}
