@@ -35,7 +35,7 @@ use Rattle.mu_model_written_node.specs.Free.{IsFreeBank, FillsBank}
 use Rattle.mu_model_written_node.proofs.Free.{apart_test, filling_within}
 use Rattle.mu_model_written_node.specs.Written.{CanWrite, IsWritten, tag_by, note_with, given_up, applied_note, activated_note}
 
-zip_length : {A B : Type 0} (P : A → B → Type 0) (xs : List A) (ys : List B) → AllZip P xs ys → length xs ≡ length ys
+pub zip_length : {A B : Type 0} (P : A → B → Type 0) (xs : List A) (ys : List B) → AllZip P xs ys → length xs ≡ length ys
 zip_length P [] [] all = refl
 zip_length P [] (y ∷ ys) all = absurd all
 zip_length P (x ∷ xs) [] all = absurd all
@@ -215,7 +215,7 @@ all_set P (y ∷ ys) (suc i) x all is = (all.0, all_set P ys i x all.1 is)
 sealed_isnt : (entry : BankState) (meta : Meta) → entry ≡ Sealed meta → IsFilling entry → ⊥
 sealed_isnt entry meta e filling = subst IsFilling e filling
 
-not_among_filling : BankImageIsGood → (s : StoreState) (active : List ℕ) (images : List Image) (f : ℕ) → AllZip (HasImage s) active images → IsFilling (entry_of s.present f) → is_among active f ≡ false
+pub not_among_filling : BankImageIsGood → (s : StoreState) (active : List ℕ) (images : List Image) (f : ℕ) → AllZip (HasImage s) active images → IsFilling (entry_of s.present f) → is_among active f ≡ false
 not_among_filling good s [] images f all filling = refl
 not_among_filling good s (b ∷ active) [] f all filling = absurd all
 not_among_filling good s (b ∷ active) (x ∷ images) f all filling =

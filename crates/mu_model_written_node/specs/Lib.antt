@@ -1,3 +1,4 @@
 pub mod Free
 pub mod Memory
 pub mod Written
+pub mod Changed

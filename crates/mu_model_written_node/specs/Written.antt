@@ -6,6 +6,7 @@ use Rattle.mu_model_record.specs.Store.{StoreState}
 use Rattle.mu_model_record.specs.Next.{record_steps}
 use Rattle.mu_model_record.specs.Changes.{tagged, emptied}
 use Rattle.mu_model_record.specs.ChangeLaws.{IsNotLast}
+use Rattle.mu_model_node.specs.declared.FlashWork.{FlashWork}
 use Rattle.mu_model_node.specs.declared.FlashWork.TheVariants.{Recorded}
 use Rattle.mu_model_node.specs.declared.Stored.TheVariants.{Verified, Applied}
 use Rattle.mu_model_node.specs.FlashWork.{work_by}
@@ -26,12 +27,16 @@ pub record CanWrite (s : StoreState) (part : Option BlobJob) (note : NodeNote) (
   pub is : IsNodeOf s part note d
   pub free : IsFreeBank s.present note.active bank
 
--- The state after one record represents this node, and its operations are the flash work of a record.
-pub record IsWritten (s e : StoreState) (part : Option BlobJob) (note : NodeNote) (d n : NodeDurable) : Type 0 where
+-- The state after the operations represents this node, and they are this flash work.
+pub record IsWorked (s e : StoreState) (part : Option BlobJob) (note : NodeNote) (d n : NodeDurable) (steps : ℕ → List StoreState) (work : FlashWork) : Type 0 where
   pub state : IsStoreState e
   pub is : IsNodeOf e part note n
-  pub as_many : (fresh : ℕ) → length (record_steps fresh s e) ≡ length (work_by fresh d n (Recorded false))
-  pub reads : (fresh : ℕ) → Refines (either RepresentsStore) (either RepresentsNode) s (record_steps fresh s e) d (work_by fresh d n (Recorded false))
+  pub as_many : (fresh : ℕ) → length (steps fresh) ≡ length (work_by fresh d n work)
+  pub reads : (fresh : ℕ) → Refines (either RepresentsStore) (either RepresentsNode) s (steps fresh) d (work_by fresh d n work)
+
+-- those of one record
+abbrev pub IsWritten : StoreState → StoreState → Option BlobJob → NodeNote → NodeDurable → NodeDurable → Type 0
+IsWritten s e part note d n = IsWorked s e part note d n (λ (fresh : ℕ). record_steps fresh s e) (Recorded false)
 
 -- the tag of a job with a note
 abbrev pub tag_by : Option BlobJob → NodeNote → List ℕ

@@ -2,14 +2,15 @@
 
 ghost use Rattle.mu_model_written_node.specs.Free.{OneBankIsFree, ActiveBanksAreThere};
 ghost use Rattle.mu_model_written_node.specs.Memory.{WrittenIsANode, WrittenIsShort, NodeNoteFits};
+ghost use Rattle.mu_model_written_node.specs.Changed.{BegunIsWritten, DroppedIsWritten, PutIsWorked};
 ghost use Rattle.mu_model_written_node.specs.Written.{LostIsWritten, TakenIsWritten, AppliedIsWritten, ActivatedIsWritten};
 
 use mu_model_flash::laws::ranges_of_octets;
 use mu_model_image::laws::metadata;
-use mu_model_jobs::laws::states_stay;
+use mu_model_jobs::laws::{parts, states_stay};
 use mu_model_represents::laws::{
-    images_of_banks, octets_of_tags, records_are_short, represented_is_sound, runs_are_read,
-    written_node, written_note,
+    blocks_of_jobs, images_of_banks, octets_of_tags, records_are_short, represented_is_sound,
+    runs_are_read, written_node, written_note,
 };
 use mu_model_shown_node::laws::rules_go_on;
 use mu_model_stored_node::laws::{node_is_kept, node_steps};
@@ -47,6 +48,23 @@ pub fn written_in_a_store()
     represented_is_sound();
     runs_are_read();
     written_node();
+    node_is_kept();
+    node_steps();
+}
+
+/// What the store represents after the change of a BLOB message, and how its operations are read.
+pub fn changed_in_a_store()
+    ensures begun { BegunIsWritten }
+    ensures dropped { DroppedIsWritten }
+    ensures put { PutIsWorked }
+{
+    parts();
+    states_stay();
+    images_of_banks();
+    represented_is_sound();
+    runs_are_read();
+    written_node();
+    blocks_of_jobs();
     node_is_kept();
     node_steps();
 }
