@@ -8,15 +8,16 @@ use Rattle.mu_model_flash.specs.Laws.{RangeLaws}
 use Rattle.mu_model_record.specs.Record.{zeros, IsRecord}
 use Rattle.mu_model_record.specs.Next.{fresh_after}
 use Rattle.mu_model_node.specs.FlashWork.{fresh_after as fresh_left}
-use Rattle.mu_model_represents.specs.BlobPart.{note_part}
+use Rattle.mu_model_represents.specs.BlobPart.{BlobJob, note_part}
 use Rattle.mu_model_represents.specs.NodeNote.{NoteJob, NodeNote, HasNoteJob, index_of, SpellsNote, SpellsOldNote, IsNodeNote, note_octets}
 use Rattle.mu_model_represents.specs.Notes.{NoteFits, NodeNoteIsReadBack}
 use Rattle.mu_model_represents.specs.Octets.{TagLaws}
+use Rattle.mu_model_represents.specs.RepresentsNode.{IsNodeJob, HasNodeJob}
 use Rattle.mu_model_represents.specs.Short.{RecordIsShortByItsNote}
 use Rattle.mu_model_stored_node.specs.Steps.{ShortFreshIsTheSame}
 use Rattle.mu_model_shown_node.specs.Shown.{InMemory, IsNodeMemory}
-use Rattle.mu_model_shown_node.specs.Next.{NextIsANode}
-use Rattle.mu_model_written_node.specs.Memory.{IsWrittenNext}
+use Rattle.mu_model_shown_node.specs.Next.{NextIsANode, JobGoesOn}
+use Rattle.mu_model_written_node.specs.Memory.{IsWrittenNext, IsChangedNext}
 use Rattle.mu_model_written_node.proofs.Free.{AreFew, few, all_there}
 
 pub are_octets : (n : ℕ) (active : List ℕ) → n ≤ 256 → AllByRecursion (λ (b : ℕ). b < n) active → AllByRecursion (λ (b : ℕ). b < 256) active
@@ -56,3 +57,16 @@ fits_by laws in_range note octets are (inr old) = job_fits laws in_range note.jo
 pub note_fits : TagLaws → MetaThatIsReadIsInRange → (m : InMemory) → IsNodeMemory m → IsRecord m.present → NoteFits m.note.job
 note_fits laws in_range m rules is =
     fits_by laws in_range m.note (note_part m.present.tag) (laws.octets.of_part m.present.tag 64 1728 is.tag_octets) rules.note_octets.spells
+
+pub changed_node : NextIsANode → JobGoesOn → (m next : InMemory) (b c : BlobJob) (n : NoteJob) → IsNodeMemory m → IsChangedNext m next b c n → IsNodeMemory next
+changed_node law goes m next b c n rules w =
+    let was : IsNodeJob m.present m.note.active b n =
+    subst (λ (q : Option NoteJob). HasNodeJob m.present m.note.active (Some b) q) w.job (subst (λ (q : Option BlobJob). HasNodeJob m.present m.note.active q m.note.job) w.was rules.job) in
+    let now : HasNodeJob next.present m.note.active (Some c) (Some n) = goes m.note.active m.present next.present b c n n was w.is_next.active w.same w.stored in
+    let job = subst (λ (q : Option NoteJob). HasNodeJob next.present m.note.active (Some c) q) (sym w.job) now in
+    law m next rules w.is_next (ap (λ (k : NodeNote). k.active) w.note)
+    (record {
+      blob = w.blob;
+      note = rw (w.is_next.number, w.note, w.octets) rules.note_octets;
+      job = subst (λ (k : NodeNote). HasNodeJob next.present k.active next.part k.job) (sym w.note) (subst (λ (q : Option BlobJob). HasNodeJob next.present m.note.active q m.note.job) (sym w.part) job);
+    })

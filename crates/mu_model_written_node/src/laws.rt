@@ -1,7 +1,7 @@
 //! Laws of the definitions: functions that do nothing, whose contracts are proved.
 
 ghost use Rattle.mu_model_written_node.specs.Free.{OneBankIsFree, ActiveBanksAreThere};
-ghost use Rattle.mu_model_written_node.specs.Memory.{WrittenIsANode, WrittenIsShort, NodeNoteFits};
+ghost use Rattle.mu_model_written_node.specs.Memory.{WrittenIsANode, WrittenIsShort, NodeNoteFits, ChangedIsANode};
 ghost use Rattle.mu_model_written_node.specs.Changed.{BegunIsWritten, DroppedIsWritten, PutIsWorked};
 ghost use Rattle.mu_model_written_node.specs.Written.{LostIsWritten, TakenIsWritten, AppliedIsWritten, ActivatedIsWritten};
 
@@ -67,4 +67,11 @@ pub fn changed_in_a_store()
     blocks_of_jobs();
     node_is_kept();
     node_steps();
+}
+
+/// The record of a BLOB message is a node's: the same update goes on.
+pub fn changed_in_memory()
+    ensures { ChangedIsANode }
+{
+    rules_go_on();
 }
