@@ -10,14 +10,15 @@ use Rattle.mu_model_record.specs.Represents.{RepresentsStore}
 use Rattle.mu_model_record.specs.Store.{StoreState}
 use Rattle.mu_model_record.specs.Next.{is_short, record_steps}
 use Rattle.mu_model_record.specs.ChangeLaws.{IsNotLast}
+use Rattle.mu_model_node.specs.declared.FlashWork.{FlashWork}
 use Rattle.mu_model_node.specs.declared.FlashWork.TheVariants.{Recorded}
 use Rattle.mu_model_node.specs.FlashWork.{work_by}
 use Rattle.mu_model_node.specs.NodeOutcome.{Outcome}
 use Rattle.mu_model_node.specs.NodeState.{NodeDurable, NodeState}
 use Rattle.mu_model_represents.specs.BlobPart.{BlobJob}
 use Rattle.mu_model_represents.specs.NodeNote.{NodeNote}
-use Rattle.mu_model_represents.specs.RepresentsNode.{RepresentsNode}
-use Rattle.mu_model_written_node.specs.Written.{IsWritten}
+use Rattle.mu_model_represents.specs.RepresentsNode.{IsNodeOf, RepresentsNode}
+use Rattle.mu_model_written_node.specs.Written.{IsWorked, IsWritten}
 use Rattle.mu_store.specs.declared.faults.StoreFault.{StoreFault}
 use Rattle.mu_store.specs.declared.faults.StoreFault.TheVariants.{Flash, Worn}
 use Rattle.mu_place.specs.declared.place.Place.{Place}
@@ -57,40 +58,55 @@ last_is : (fresh : ℕ) (s e : StoreState) → last_of s (record_steps fresh s e
 last_is fresh s e = last_if (is_short e.present && nat_lt 0 fresh) s e
 
 module _ {F : Type 0} {g : _} (seen : F → Seen) (laws : RunLaws StateOf reading_of seen) (old new : Place F g) (fresh : ℕ) (s e : StoreState) (part : Option BlobJob) (note : NodeNote) (d n : NodeDurable)
-    (is : IsWritten s e part note d n) where
-  pub ran : Ran (either RepresentsStore) s (record_steps fresh s e) (place_seen seen old) (place_seen seen new)
-      → Ran (either RepresentsNode) d (work_by fresh d n (Recorded false)) (place_seen seen old) (place_seen seen new)
-  ran run = (reads seen laws old new).ran as_store as_node s (record_steps fresh s e) d (work_by fresh d n (Recorded false)) (is.as_many fresh) (λ told. is.reads fresh) run
+    (steps : ℕ → List StoreState) (work : FlashWork) (is : IsWorked s e part note d n steps work) where
+  pub ran : Ran (either RepresentsStore) s (steps fresh) (place_seen seen old) (place_seen seen new) → Ran (either RepresentsNode) d (work_by fresh d n work) (place_seen seen old) (place_seen seen new)
+  ran run = (reads seen laws old new).ran as_store as_node s (steps fresh) d (work_by fresh d n work) (is.as_many fresh) (λ told. is.reads fresh) run
 
-  pub broke : Broke (either RepresentsStore) s (record_steps fresh s e) (place_seen seen old) (place_seen seen new)
-      → Broke (either RepresentsNode) d (work_by fresh d n (Recorded false)) (place_seen seen old) (place_seen seen new)
-  broke run = (reads seen laws old new).broke as_store as_node s (record_steps fresh s e) d (work_by fresh d n (Recorded false)) (is.as_many fresh) (λ told. is.reads fresh) run
+  pub broke : Broke (either RepresentsStore) s (steps fresh) (place_seen seen old) (place_seen seen new) → Broke (either RepresentsNode) d (work_by fresh d n work) (place_seen seen old) (place_seen seen new)
+  broke run = (reads seen laws old new).broke as_store as_node s (steps fresh) d (work_by fresh d n work) (is.as_many fresh) (λ told. is.reads fresh) run
 
 -- what the flash represents then
-pub on_flash : {F : Type 0} {g : _} (seen : F → Seen) (node : Node F g) (fresh : ℕ) (s e : StoreState) (part : Option BlobJob) (note : NodeNote) (d n : NodeDurable) → IsWritten s e part note d n
-    → PlaceHolds seen (place_in node) (last_of s (record_steps fresh s e)) → (memory_of node).part ≡ part → (memory_of node).note ≡ note → HasOnFlash seen node n
-on_flash seen node fresh s e part note d n is holds same_part same_note = record {
+pub on_flash : {F : Type 0} {g : _} (seen : F → Seen) (node : Node F g) (s e : StoreState) (part : Option BlobJob) (note : NodeNote) (n : NodeDurable) (steps : List StoreState) → IsNodeOf e part note n → last_of s steps ≡ e
+    → PlaceHolds seen (place_in node) (last_of s steps) → (memory_of node).part ≡ part → (memory_of node).note ≡ note → HasOnFlash seen node n
+on_flash seen node s e part note n steps is last holds same_part same_note = record {
   store = e;
-  holds = subst (λ (t : StoreState). PlaceHolds seen (place_in node) t) (last_is fresh s e) holds;
-  represents = rw (same_part, same_note) is.is;
+  holds = subst (λ (t : StoreState). PlaceHolds seen (place_in node) t) last holds;
+  represents = rw (same_part, same_note) is;
 }
 
-module _ {F : Type 0} {g : _} (seen : F → Seen) (laws : RunLaws StateOf reading_of seen) (old new : Node F g) (n : NodeState) (o : Outcome) (s e : StoreState) (part : Option BlobJob) (note : NodeNote)
-    (fresh : n.fresh ≡ place_fresh (place_in old)) (work : o.work ≡ Recorded false) (is : IsWritten s e part note n.durable o.next.durable) where
-  steps_are : work_by n.fresh n.durable o.next.durable o.work ≡ work_by (place_fresh (place_in old)) n.durable o.next.durable (Recorded false)
-  steps_are = λ i. work_by (fresh i) n.durable o.next.durable (work i)
+-- ---- the work of an outcome
 
-  pub record_ran : (memory_of new).part ≡ part → (memory_of new).note ≡ note
-      → Ran (either RepresentsStore) s (record_steps (place_fresh (place_in old)) s e) (seen_of seen old) (seen_of seen new) × PlaceHolds seen (place_in new) (last_of s (record_steps (place_fresh (place_in old)) s e))
+module _ {F : Type 0} {g : _} (seen : F → Seen) (laws : RunLaws StateOf reading_of seen) (old new : Node F g) (n : NodeState) (o : Outcome) (s e : StoreState) (part : Option BlobJob) (note : NodeNote)
+    (steps : ℕ → List StoreState) (work : FlashWork) (fresh : n.fresh ≡ place_fresh (place_in old)) (does : o.work ≡ work) (is : IsWorked s e part note n.durable o.next.durable steps work) where
+  steps_are : work_by n.fresh n.durable o.next.durable o.work ≡ work_by (place_fresh (place_in old)) n.durable o.next.durable work
+  steps_are = λ i. work_by (fresh i) n.durable o.next.durable (does i)
+
+  pub work_ran : last_of s (steps (place_fresh (place_in old))) ≡ e → (memory_of new).part ≡ part → (memory_of new).note ≡ note
+      → Ran (either RepresentsStore) s (steps (place_fresh (place_in old))) (seen_of seen old) (seen_of seen new) × PlaceHolds seen (place_in new) (last_of s (steps (place_fresh (place_in old))))
       → Ran (either RepresentsNode) n.durable (work_by n.fresh n.durable o.next.durable o.work) (seen_of seen old) (seen_of seen new) × HasOnFlash seen new o.next.durable
-  record_ran same_part same_note run = (
+  work_ran last same_part same_note run = (
     subst (λ (l : List NodeDurable). Ran (either RepresentsNode) n.durable l (seen_of seen old) (seen_of seen new)) (sym steps_are)
-        ((ran seen laws (place_in old) (place_in new) (place_fresh (place_in old)) s e part note n.durable o.next.durable is) run.0),
-    on_flash seen new (place_fresh (place_in old)) s e part note n.durable o.next.durable is run.1 same_part same_note,
+        ((ran seen laws (place_in old) (place_in new) (place_fresh (place_in old)) s e part note n.durable o.next.durable steps work is) run.0),
+    on_flash seen new s e part note o.next.durable (steps (place_fresh (place_in old))) is.is last run.1 same_part same_note,
   )
+
+pub work_broke : {F : Type 0} {g : _} (seen : F → Seen) → RunLaws StateOf reading_of seen → (old new : Place F g) (n : NodeState) (o : Outcome) (s e : StoreState) (part : Option BlobJob) (note : NodeNote)
+    (steps : ℕ → List StoreState) (work : FlashWork) → n.fresh ≡ place_fresh old → o.work ≡ work → IsWorked s e part note n.durable o.next.durable steps work
+    → Broke (either RepresentsStore) s (steps (place_fresh old)) (place_seen seen old) (place_seen seen new)
+    → Broke (either RepresentsNode) n.durable (work_by n.fresh n.durable o.next.durable o.work) (place_seen seen old) (place_seen seen new)
+work_broke seen laws old new n o s e part note steps work fresh does is run =
+    rw (fresh, does) ((broke seen laws old new (place_fresh old) s e part note n.durable o.next.durable steps work is) run)
+
+-- ---- that of a record
+
+pub record_ran : {F : Type 0} {g : _} (seen : F → Seen) (laws : RunLaws StateOf reading_of seen) (old new : Node F g) (n : NodeState) (o : Outcome) (s e : StoreState) (part : Option BlobJob) (note : NodeNote)
+    → n.fresh ≡ place_fresh (place_in old) → o.work ≡ Recorded false → IsWritten s e part note n.durable o.next.durable → (memory_of new).part ≡ part → (memory_of new).note ≡ note
+    → Ran (either RepresentsStore) s (record_steps (place_fresh (place_in old)) s e) (seen_of seen old) (seen_of seen new) × PlaceHolds seen (place_in new) (last_of s (record_steps (place_fresh (place_in old)) s e))
+    → Ran (either RepresentsNode) n.durable (work_by n.fresh n.durable o.next.durable o.work) (seen_of seen old) (seen_of seen new) × HasOnFlash seen new o.next.durable
+record_ran seen laws old new n o s e part note fresh work is same_part same_note run =
+    (work_ran seen laws old new n o s e part note (λ (f : ℕ). record_steps f s e) (Recorded false) fresh work is) (last_is (place_fresh (place_in old)) s e) same_part same_note run
 
 pub record_broke : {F : Type 0} {g : _} (seen : F → Seen) → RunLaws StateOf reading_of seen → (old new : Place F g) (n : NodeState) (o : Outcome) (s e : StoreState) (part : Option BlobJob) (note : NodeNote) → n.fresh ≡ place_fresh old
     → o.work ≡ Recorded false → IsWritten s e part note n.durable o.next.durable → Broke (either RepresentsStore) s (record_steps (place_fresh old) s e) (place_seen seen old) (place_seen seen new)
     → Broke (either RepresentsNode) n.durable (work_by n.fresh n.durable o.next.durable o.work) (place_seen seen old) (place_seen seen new)
-record_broke seen laws old new n o s e part note fresh work is run =
-    rw (fresh, work) ((broke seen laws old new (place_fresh old) s e part note n.durable o.next.durable is) run)
+record_broke seen laws old new n o s e part note fresh work is run = work_broke seen laws old new n o s e part note (λ (f : ℕ). record_steps f s e) (Recorded false) fresh work is run
