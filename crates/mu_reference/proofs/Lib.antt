@@ -7,3 +7,4 @@ pub mod Images
 pub mod Ids
 pub mod Lacking
 pub mod Shown
+pub mod Looked

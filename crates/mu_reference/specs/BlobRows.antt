@@ -2,11 +2,11 @@
 use Rattle.std.specs.Prelude.{ℕ, ◌≡◌, ◌<◌, true, false, List, [], length, Option, None, Some, if◌then◌else◌}
 use Rattle.mu_blob_rows.specs.Sessions.{link_by}
 use Rattle.mu_model_node.specs.declared.Parameters.{Parameters}
-use Rattle.mu_model_node.specs.BlobServer.{CurrentBlock, Session, unlinked, heard_at, linked, Server, BlobPhase, NextChunk, Change, Same, Begins, Drops, Puts}
+use Rattle.mu_model_node.specs.BlobServer.{CurrentBlock, Session, unlinked, heard_at, linked, Serving, NoJob, Lacking, Whole, Server, BlobPhase, NextChunk, Change, Same, Begins, Drops, Puts}
 use Rattle.mu_model_node.specs.BlobTable.{Served, silently, tell, tell_block, receives, is_pull, to_client}
-use Rattle.mu_model_node.specs.NodeState.{Job, NodeState}
+use Rattle.mu_model_node.specs.NodeState.{Job, NodeState, server_of as node_server}
 use Rattle.mu_model_node.specs.NodeOutcome.{with_session}
-use Rattle.mu_model_node.specs.Slots.{empty, at, put, is_full, joined}
+use Rattle.mu_model_node.specs.Slots.{Slots, empty, at, put, is_full, joined}
 use Rattle.mu_reference.specs.View.{session_of, serving_of}
 use Rattle.mu_reference.specs.declared.blob_table.Server.{Server as ServerHere}
 use Rattle.mu_reference.specs.declared.blob_table.SessionChange.{SessionChange}
@@ -16,6 +16,23 @@ use Rattle.mu_reference.specs.declared.timing.TimeStep.{TimeStep}
 use Rattle.mu_reference.specs.declared.timing.TimeStep.TheVariants.{Wait, Unlink, Ask}
 use Rattle.mu_reference.specs.declared.blob_table.ChunkStep.{ChunkStep}
 use Rattle.mu_reference.specs.declared.blob_table.ChunkStep.TheVariants.{PassOver, Hear, Receive}
+
+-- ---- what a look leaves out: the octets of the held blocks and of the chunks
+
+abbrev pub held_in : Serving → Slots
+held_in NoJob = []
+held_in (Lacking t) = t.held
+held_in (Whole t) = t.held
+
+abbrev pub chunks_in : Option CurrentBlock → Slots
+chunks_in None = []
+chunks_in (Some c) = c.chunks
+
+abbrev pub held_by : NodeState → Slots
+held_by s = held_in (node_server s).serving
+
+abbrev pub chunks_by : NodeState → Slots
+chunks_by s = chunks_in s.session.current
 
 abbrev pub server_of : ServerHere → Server
 server_of v = record { capacity = v.capacity; serving = serving_of v.serving; session = session_of v.session.now; now = v.now }

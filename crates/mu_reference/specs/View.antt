@@ -1,6 +1,6 @@
 -- The node in memory as the model's node.
 use Rattle.std.specs.Prelude.{map, Option, Some, None}
-use Rattle.mu_blob_rows.specs.Sessions.{report_of}
+use Rattle.mu_blob_rows.specs.Sessions.{session_of as session_with}
 use Rattle.mu_model_node.specs.There.{there}
 use Rattle.mu_model_image.specs.Meta.{Image}
 use Rattle.mu_model_node.specs.BlobServer.{CurrentBlock, Session, BlobPhase, Inactive, WaitingForStart, NextBlock, NextChunk, Complete, Suspended, Serving, NoJob, Lacking, Whole}
@@ -24,7 +24,7 @@ abbrev pub current_of : CurrentBlockHere → CurrentBlock
 current_of c = record { number = c.number; chunk_size = c.chunk_size; chunks = c.chunks }
 
 abbrev pub session_of : SessionHere → Session
-session_of l = record { link = l.link; current = there current_of l.current; last = l.last; client = l.client; heard = l.heard; report = there report_of l.report }
+session_of l = session_with l.rest (there current_of l.current)
 
 abbrev pub image_of : ImageHere → Image
 image_of i = record { octets = i.octets.items; meta = i.meta }

@@ -99,7 +99,7 @@ impl State {
     {
         Server {
             capacity: self.capacity,
-            serving: serving_at(update_phase(&self.job, self.session.link)),
+            serving: serving_at(update_phase(&self.job, self.session.rest.link)),
             session: &self.session,
             now: self.moment,
         }

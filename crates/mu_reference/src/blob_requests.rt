@@ -14,7 +14,7 @@ ghost use Rattle.mu_reference.specs.Outcomes.{BeginsWithin, ServedAs};
 
 use crate::blob_events::{Served, transfer_reply};
 use crate::blob_table::{
-    BlockTold, Told, on_block_get, on_block_start, on_transfer_cancel, on_transfer_start,
+    BlockTold, Told, on_block_get, on_block_start,
 };
 use crate::messages::{BlobAnswer, BlobReply};
 use crate::phases::BlobPhase;
@@ -72,16 +72,16 @@ impl State {
         ensures within { BeginsWithin self.now.capacity parameters result.change }
         ensures told { (from : ℕ) → on_blob (server_of (state_of self.now)) from (TransferStart id parameters) ≡ told_by (server_of (state_of self.now)) from parameters result }
     {
-        on_transfer_start(self.server(), id, parameters, self.blob_phase())
+        self.look().transfer_start(id, parameters)
     }
 
     /// What a Transfer Cancel does.
     pub fn cancel_told(&self, id: u64) -> Told
         ensures known { result.status ≤ 7 }
-        ensures within { (capacity : ℕ) (p : Parameters) → BeginsWithin capacity p result.change }
+        ensures within { (p : Parameters) → BeginsWithin self.now.capacity p result.change }
         ensures told { (from : ℕ) → on_blob (server_of (state_of self.now)) from (TransferCancel id) ≡ told_by (server_of (state_of self.now)) from UNUSED result }
     {
-        on_transfer_cancel(self.server(), id)
+        self.look().transfer_cancel(id)
     }
 
     /// BLOB Information Get.

@@ -3,38 +3,28 @@ ghost use Rattle.std.specs.Prelude.{ℕ, ◌≡◌, ◌<◌, ◌≤◌, ◌==◌
 ghost use Rattle.mu_model_image.specs.Pieces.{block_length, chunk_length};
 ghost use Rattle.mu_model_node.specs.Slots.{at};
 ghost use Rattle.mu_model_node.specs.BlobServer.{Server as ServerModel, Transfer, NextBlock, server_phase};
-ghost use Rattle.mu_model_node.specs.BlobTable.{starts, resumes, repeats, on_transfer_start, on_transfer_cancel, held_again, opens, on_block_start, tell_last, on_block_get, on_chunk_transfer};
+ghost use Rattle.mu_model_node.specs.BlobTable.{held_again, opens, on_block_start, tell_last, on_block_get, on_chunk_transfer};
 ghost use Rattle.mu_model_node.specs.NodeState.{transfer_of};
 ghost use Rattle.mu_model_node.specs.Sound.{IsTransfer, IsComing, IsPhase};
 ghost use Rattle.mu_reference.specs.View.{job_of, current_of, blob_phase_of};
 ghost use Rattle.mu_reference.specs.BlobRows.{server_of, block_told_by, chunk_stepped, ReceivesWithin};
-ghost use Rattle.mu_blob_rows.specs.Rows.{told_by};
 ghost use Rattle.mu_blob_rows.specs.Sessions.{link_by};
-ghost use Rattle.mu_reference.specs.Outcomes.{BeginsWithin};
 ghost use Rattle.mu_blob_answers.specs.Fits.{IsShort};
 
 use crate::phases::{BlobPhase, Serving, blob_phase};
 use crate::values::{CurrentBlock, Job, Session};
 use mu_arith::{block_len, chunk_count, chunk_len};
 pub use mu_blob_rows::{LinkChange, Told, TransferChange};
-use mu_model_node::{Link, Parameters};
+use mu_model_node::Parameters;
 use mu_report::{Report, report_of};
 
 const SUCCESS: u8 = 0;
 
 const INVALID_BLOCK_NUMBER: u8 = 1;
 
-const INVALID_BLOCK_SIZE: u8 = 2;
-
 const INVALID_CHUNK_SIZE: u8 = 3;
 
 const WRONG_PHASE: u8 = 4;
-
-const INVALID_PARAMETER: u8 = 5;
-
-const WRONG_BLOB_ID: u8 = 6;
-
-const BLOB_TOO_LARGE: u8 = 7;
 
 /// What the rows see.
 #[derive(Clone, Copy)]
@@ -86,113 +76,6 @@ impl<'a> Server<'a> {
         ensures { blob_phase_of result ≡ server_phase (server_of self.entry) }
     {
         blob_phase(self.serving, self.session)
-    }
-}
-
-fn refused(status: u8) -> Told
-    ensures { result ≡ record { link = LinkChange.Keeps; change = TransferChange.Nothing; status = status } }
-{
-    Told {
-        link: LinkChange::Keeps,
-        change: TransferChange::Nothing,
-        status,
-    }
-}
-
-fn accepted(link: LinkChange, change: TransferChange) -> Told
-    ensures { result ≡ record { link = link; change = change; status = 0 } }
-{
-    Told {
-        link,
-        change,
-        status: SUCCESS,
-    }
-}
-
-fn start<'a>(server: Server<'a>, parameters: Parameters, job: &'a Job) -> Told
-    ensures known { result.status ≤ 7 }
-    ensures within { BeginsWithin server.entry.capacity parameters result.change }
-    ensures told { (to : ℕ) → starts (server_of server.entry) to parameters (transfer_of (job_of job.now)) ≡ told_by (server_of server.entry) to parameters result }
-{
-    if parameters.size > server.capacity {
-        refused(BLOB_TOO_LARGE)
-    } else if parameters.log < 12 || parameters.log > 14 {
-        refused(INVALID_BLOCK_SIZE)
-    } else if parameters.size != job.meta.size {
-        refused(INVALID_PARAMETER)
-    } else {
-        accepted(LinkChange::Links, TransferChange::Begin)
-    }
-}
-
-fn resume<'a>(server: Server<'a>, parameters: Parameters, present: Parameters) -> Told
-    ensures known { result.status ≤ 7 }
-    ensures within { BeginsWithin server.entry.capacity parameters result.change }
-    ensures told { (to : ℕ) → resumes (server_of server.entry) to parameters present ≡ told_by (server_of server.entry) to parameters result }
-{
-    if parameters == present {
-        accepted(LinkChange::Links, TransferChange::Nothing)
-    } else {
-        refused(INVALID_PARAMETER)
-    }
-}
-
-fn repeat<'a>(server: Server<'a>, heard: LinkChange, parameters: Parameters, job: &'a Job) -> Told
-    ensures known { result.status ≤ 7 }
-    ensures within { BeginsWithin server.entry.capacity parameters result.change }
-    ensures told { (to : ℕ) → repeats (server_of server.entry) (link_by heard server.entry.now to (server_of server.entry).session) to parameters (transfer_of (job_of job.now)) ≡ told_by (server_of server.entry) to parameters result }
-{
-    match job.parameters {
-        Some(present) if parameters == present => accepted(heard, TransferChange::Nothing),
-        _ => refused(WRONG_PHASE),
-    }
-}
-
-/// BLOB Transfer Start.
-pub fn on_transfer_start<'a>(
-    server: Server<'a>,
-    id: u64,
-    parameters: Parameters,
-    phase: BlobPhase<'a>,
-) -> Told
-    ensures known { result.status ≤ 7 }
-    ensures within { BeginsWithin server.entry.capacity parameters result.change }
-    ensures told { (to : ℕ) → on_transfer_start (server_of server.entry) to id parameters (blob_phase_of phase.entry) ≡ told_by (server_of server.entry) to parameters result }
-{
-    match phase {
-        BlobPhase::WaitingForStart(job) if id == job.id => start(server, parameters, job),
-        BlobPhase::Suspended(job, present) if server.session.link == Link::Ready => {
-            if id == job.id {
-                resume(server, parameters, present)
-            } else {
-                refused(WRONG_BLOB_ID)
-            }
-        }
-        BlobPhase::NextBlock(job, _) | BlobPhase::NextChunk(job, _, _) if id == job.id => {
-            repeat(server, LinkChange::Hears, parameters, job)
-        }
-        BlobPhase::Complete(job) if id == job.id => {
-            repeat(server, LinkChange::Keeps, parameters, job)
-        }
-        BlobPhase::Inactive | BlobPhase::Suspended(..) => refused(WRONG_PHASE),
-        _ => refused(WRONG_BLOB_ID),
-    }
-}
-
-/// BLOB Transfer Cancel.
-pub fn on_transfer_cancel<'a>(server: Server<'a>, id: u64) -> Told
-    ensures known { result.status ≤ 7 }
-    ensures within { (capacity : ℕ) (p : Parameters) → BeginsWithin capacity p result.change }
-    ensures told { (to : ℕ) (p : Parameters) → on_transfer_cancel (server_of server.entry) to id (server_of server.entry).serving ≡ told_by (server_of server.entry) to p result }
-{
-    match server.serving {
-        Serving::NoJob => refused(SUCCESS),
-        Serving::Lacking(job) if id == job.id => match job.parameters {
-            None => accepted(LinkChange::Unlinks, TransferChange::Nothing),
-            Some(_) => accepted(LinkChange::Unlinks, TransferChange::Drop),
-        },
-        Serving::Whole(job) if id == job.id => refused(WRONG_PHASE),
-        _ => refused(WRONG_BLOB_ID),
     }
 }
 
@@ -307,7 +190,7 @@ fn told_last<'a>(server: Server<'a>, heard: LinkChange) -> BlockTold
     ensures short { IsShort result.report }
     ensures told { (to : ℕ) → tell_last (server_of server.entry).session (link_by heard server.entry.now to (server_of server.entry).session) to (server_of server.entry).session.last ≡ block_told_by (server_of server.entry) to result }
 {
-    match server.session.last {
+    match server.session.rest.last {
         None => block_told(
             SessionChange::Link(LinkChange::Keeps),
             WRONG_PHASE,

@@ -48,11 +48,11 @@ impl State {
         ensures { ServedAs (state_of self.old) (time_stepped (server_of (state_of self.old)) (TimeStep.Ask chunks)) (Ok result) (state_of self.new) }
     {
         let asked = numbers_of(&chunks);
-        self.session.report = Some(PullReport {
+        self.session.rest.report = Some(PullReport {
             moment: self.moment,
             chunks: asked,
         });
-        let reply = match self.session.client {
+        let reply = match self.session.rest.client {
             None => None,
             Some(client) => Some((client, partial_report(chunks))),
         };

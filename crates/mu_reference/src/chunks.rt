@@ -73,12 +73,12 @@ impl State {
             job.held
                 .put(usize::from(current.number), Octets::new(block));
         }
-        self.session.last = Some(LastBlock {
+        self.session.rest.last = Some(LastBlock {
             number: current.number,
             chunk_size: current.chunk_size,
         });
-        self.session.report = None;
-        let reply = match self.session.client {
+        self.session.rest.report = None;
+        let reply = match self.session.rest.client {
             Some(client) if parameters.mode == 2 => Some((client, partial_report(ArrayVec::new()))),
             _ => None,
         };
@@ -113,13 +113,13 @@ impl State {
             return Err(Stop::NoMemory);
         };
         if let Some(block) = last {
-            self.session.heard = self.moment;
+            self.session.rest.heard = self.moment;
             return Ok(self.complete(parameters, block));
         }
         let Ok(piece) = Vec::from_slice(alloc, octets) else {
             return Err(Stop::NoMemory);
         };
-        self.session.heard = self.moment;
+        self.session.rest.heard = self.moment;
         self.keep(chunk, Octets::new(piece));
         Ok(nothing())
     }
@@ -150,7 +150,7 @@ impl State {
         match self.chunk_step(chunk, octets) {
             ChunkStep::PassOver => Ok(nothing()),
             ChunkStep::Hear => {
-                self.session.heard = self.moment;
+                self.session.rest.heard = self.moment;
                 Ok(nothing())
             }
             ChunkStep::Receive(parameters) => self.receive(alloc, parameters, chunk, octets),

@@ -9,6 +9,7 @@ mod blob_time;
 mod chunks;
 mod foreseen;
 mod information;
+mod looks;
 mod messages;
 mod moments;
 mod node;

@@ -93,7 +93,7 @@ pub fn serving_at<'a>(phase: UpdatePhase<'a>) -> Serving<'a>
 fn transferring<'a>(job: &'a Job, session: &'a Session) -> BlobPhase<'a>
     ensures { blob_phase_of result ≡ serving_phase (session_of session.now) (serving_of (Serving.Lacking job.entry)) }
 {
-    match (job.parameters, session.link) {
+    match (job.parameters, session.rest.link) {
         (None, Link::Cut) => BlobPhase::Inactive,
         (None, _) => BlobPhase::WaitingForStart(job),
         (Some(parameters), Link::Running) => match &session.current {

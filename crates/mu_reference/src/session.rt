@@ -1,15 +1,24 @@
 // Changes of what isn't kept over a power cut.
 ghost use Rattle.std.specs.Prelude.{◌≡◌, IfOk, OnErr};
 ghost use Rattle.mu_model_node.specs.BlobServer.{asleep, unlinked, made_ready};
-ghost use Rattle.mu_reference.specs.View.{session_of};
+ghost use Rattle.mu_model_node.specs.There.{there};
+ghost use Rattle.mu_reference.specs.View.{current_of, session_of};
 ghost use Rattle.mu_reference.specs.BlobRows.{session_by};
-ghost use Rattle.mu_blob_rows.specs.Sessions.{link_by};
+ghost use Rattle.mu_blob_rows.specs.Sessions.{link_by, current_by_link};
 
 use crate::blob_table::{LinkChange, SessionChange};
 use crate::slots::Slots;
-use crate::values::{CurrentBlock, Session};
-use mu_model_node::{LastBlock, Link};
+use crate::values::{CurrentBlock, RowSession, Session};
+use mu_model_node::LastBlock;
 use std::alloc::{AllocError, Global};
+
+fn close_by(current: &mut Option<CurrentBlock>, change: LinkChange)
+    ensures { there current_of current.new ≡ current_by_link change (there current_of current.old) }
+{
+    if let LinkChange::Unlinks = change {
+        *current = None;
+    }
+}
 
 impl Session {
     /// After a boot.
@@ -17,12 +26,8 @@ impl Session {
         ensures { session_of result ≡ asleep }
     {
         Session {
-            link: Link::Cut,
+            rest: RowSession::asleep(),
             current: None,
-            last: None,
-            client: None,
-            heard: 0,
-            report: None,
         }
     }
 
@@ -30,35 +35,23 @@ impl Session {
     pub fn unlink(&mut self)
         ensures { session_of self.new ≡ unlinked (session_of self.old) }
     {
-        self.link = Link::Cut;
         self.current = None;
-        self.last = None;
-        self.client = None;
-        self.report = None;
+        self.rest.unlink();
     }
 
     /// A job is written, or taken up again.
     pub fn make_ready(&mut self, now: u64)
         ensures { session_of self.new ≡ made_ready now (session_of self.old) }
     {
-        self.link = Link::Ready;
-        self.heard = now;
+        self.rest.make_ready(now);
     }
 
     /// Does what a row says of the link.
     pub fn link(&mut self, change: LinkChange, now: u64, from: u16)
         ensures { session_of self.new ≡ link_by change now from (session_of self.old) }
     {
-        match change {
-            LinkChange::Keeps => (),
-            LinkChange::Hears => self.heard = now,
-            LinkChange::Links => {
-                self.link = Link::Running;
-                self.client = Some(from);
-                self.heard = now;
-            }
-            LinkChange::Unlinks => self.unlink(),
-        }
+        close_by(&mut self.current, change);
+        self.rest.link(change, now, from);
     }
 
     /// Does what a row says. Without memory nothing changes.
@@ -75,11 +68,11 @@ impl Session {
         match change {
             SessionChange::Link(change) => self.link(change, now, from),
             SessionChange::Holds { block, chunk_size } => {
-                self.last = Some(LastBlock {
+                self.rest.last = Some(LastBlock {
                     number: block,
                     chunk_size,
                 });
-                self.heard = now;
+                self.rest.heard = now;
             }
             SessionChange::Opens {
                 block,
@@ -92,8 +85,8 @@ impl Session {
                     chunk_size,
                     chunks,
                 });
-                self.report = None;
-                self.heard = now;
+                self.rest.report = None;
+                self.rest.heard = now;
             }
         }
         Ok(())

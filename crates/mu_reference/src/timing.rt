@@ -84,7 +84,7 @@ fn pull<'a>(server: Server<'a>, current: &CurrentBlock) -> TimeStep
     requires { length current.now.chunks ≤ 2048 }
     ensures { pulls (server_of server.entry) (current_of current.now) ≡ time_stepped (server_of server.entry) result }
 {
-    if is_report_due(&server.session.report, current, server.now) {
+    if is_report_due(&server.session.rest.report, current, server.now) {
         TimeStep::Ask(asked(current))
     } else {
         TimeStep::Wait
@@ -110,8 +110,8 @@ pub fn on_server_time<'a>(server: Server<'a>, phase: BlobPhase<'a>) -> TimeStep
     ensures { on_server_time (server_of server.entry) (server_of server.entry).serving ≡ time_stepped (server_of server.entry) result }
 {
     match server.serving {
-        Serving::Lacking(job) if server.session.link != Link::Cut => {
-            if is_late(server.session.heard, job.base, server.now) {
+        Serving::Lacking(job) if server.session.rest.link != Link::Cut => {
+            if is_late(server.session.rest.heard, job.base, server.now) {
                 TimeStep::Unlink
             } else {
                 wait(server, phase)

@@ -91,7 +91,7 @@ impl State {
         ensures phase { update_phase_of result ≡ update_phase (state_of self.now) }
         ensures job { JobIs (update_phase_of result) (state_of self.now).durable.job }
     {
-        update_phase(&self.job, self.session.link)
+        update_phase(&self.job, self.session.rest.link)
     }
 
     /// The phase of the update as it stands on the wire.
@@ -312,7 +312,7 @@ impl State {
                 Ok(self.answer(0))
             }
             UpdateStep::Hear => {
-                self.session.heard = self.moment;
+                self.session.rest.heard = self.moment;
                 Ok(self.answer(0))
             }
             UpdateStep::Lose => self.lose_counted(from),

@@ -1,8 +1,8 @@
 // What a node keeps and what it has while it runs, as plain values.
 use crate::slots::Slots;
-pub use mu_blob_rows::PullReport;
+pub use mu_blob_rows::{PullReport, Session as RowSession};
 use mu_image::Meta;
-use mu_model_node::{LastBlock, Link, Parameters, Stored};
+use mu_model_node::{Parameters, Stored};
 
 /// An update that was taken.
 #[derive(Drop)]
@@ -34,14 +34,10 @@ pub struct CurrentBlock {
 /// What isn't kept over a power cut.
 #[derive(Drop)]
 pub struct Session {
-    pub link: Link,
+    /// All but the block that comes.
+    pub rest: RowSession,
+    /// The block that comes, if one does.
     pub current: Option<CurrentBlock>,
-    pub last: Option<LastBlock>,
-    /// The client's address.
-    pub client: Option<u16>,
-    /// The moment last heard, in milliseconds.
-    pub heard: u64,
-    pub report: Option<PullReport>,
 }
 
 /// A firmware image with its metadata.

@@ -12,7 +12,7 @@ pub returns-in-PassOver : goal.returns-in-PassOver
 returns-in-PassOver c = served_same (state_of c.args.self.now) (state_of c.args.self.now) (session_of c.args.self.now.session) _ _ (c.in-PassOver.ensures.stepped c.args.from) refl c.nothing.ensures
 
 pub returns-in-Hear : goal.returns-in-Hear
-returns-in-Hear c = served_same (state_of c.args.self.now) (state_of (record (c.args.self.now) { session = record (c.args.self.now.session) { heard = c.args.self.now.moment } })) (heard_at c.args.self.now.moment (session_of c.args.self.now.session)) _ _ (c.in-Hear.ensures.stepped c.args.from) refl c.nothing-in-Hear.ensures
+returns-in-Hear c = served_same (state_of c.args.self.now) (state_of (record (c.args.self.now) { session = record (c.args.self.now.session) { rest = record (c.args.self.now.session.rest) { heard = c.args.self.now.moment } } })) (heard_at c.args.self.now.moment (session_of c.args.self.now.session)) _ _ (c.in-Hear.ensures.stepped c.args.from) refl c.nothing-in-Hear.ensures
 
 pub returns-in-Receive : goal.returns-in-Receive
 returns-in-Receive c =

@@ -1,0 +1,61 @@
+// The node as the rows of the BLOB table look at it.
+ghost use Rattle.std.specs.Prelude.{◌≡◌};
+ghost use Rattle.mu_model_node.specs.There.{there};
+ghost use Rattle.mu_model_node.specs.NodeState.{transfer_of, server_of};
+ghost use Rattle.mu_blob_rows.specs.Looks.{transfer_with, serving_with, current_with, server_with};
+ghost use Rattle.mu_reference.specs.View.{job_of, current_of, serving_of, state_of};
+ghost use Rattle.mu_reference.specs.BlobRows.{held_in, chunks_in, held_by, chunks_by};
+
+use crate::phases::{Serving, serving_at, update_phase};
+use crate::values::{CurrentBlock, Job, State};
+use mu_blob_rows::{BlockLook, Look, Serving as ServingLook, TransferLook};
+
+fn transfer_look(job: &Job) -> TransferLook
+    ensures { transfer_with result job.now.held ≡ transfer_of (job_of job.now) }
+{
+    TransferLook {
+        id: job.id,
+        size: job.meta.size,
+        base: job.base,
+        parameters: job.parameters,
+    }
+}
+
+fn serving_look<'a>(serving: Serving<'a>) -> ServingLook
+    ensures { serving_with result (held_in (serving_of serving.entry)) ≡ serving_of serving.entry }
+{
+    match serving {
+        Serving::NoJob => ServingLook::NoJob,
+        Serving::Lacking(job) => ServingLook::Lacking(transfer_look(job)),
+        Serving::Whole(job) => ServingLook::Whole(transfer_look(job)),
+    }
+}
+
+fn block_look(current: &Option<CurrentBlock>) -> Option<BlockLook>
+    ensures { current_with result (chunks_in (there current_of current.now)) ≡ there current_of current.now }
+{
+    match current {
+        None => None,
+        Some(current) => Some(BlockLook {
+            number: current.number,
+            chunk_size: current.chunk_size,
+        }),
+    }
+}
+
+impl State {
+    /// The node as the rows of the BLOB table look at it.
+    pub fn look<'a>(&'a self) -> Look<'a>
+        ensures server { server_with result (held_by (state_of self.now)) (chunks_by (state_of self.now)) ≡ server_of (state_of self.now) }
+        ensures capacity { result.capacity ≡ self.now.capacity }
+        ensures current { current_with result.current (chunks_by (state_of self.now)) ≡ (state_of self.now).session.current }
+    {
+        Look {
+            capacity: self.capacity,
+            serving: serving_look(serving_at(update_phase(&self.job, self.session.rest.link))),
+            session: &self.session.rest,
+            current: block_look(&self.session.current),
+            now: self.moment,
+        }
+    }
+}
