@@ -1,5 +1,5 @@
 -- How many places have nothing.
-use Rattle.std.proofs.Common.{◌≡◌, ◌<◌, ◌≤◌, ℕ, zero, suc, ◌+◌, Bool, true, false, List, [], ◌∷◌, length, set, replicate, refl, ap, sym, ◌∙◌, arith, cond, Option, Some, None}
+use Rattle.std.proofs.Common.{◌≡◌, ◌<◌, ◌≤◌, ℕ, zero, suc, ◌+◌, Bool, false, List, [], ◌∷◌, length, set, replicate, refl, ◌∙◌, arith, cond, Option, Some, None}
 use Rattle.std.specs.Prelude.{◌==◌, is_none, is_some}
 use Rattle.std.specs.List.{count_by}
 use Rattle.std.proofs.lemmas.List.Sums.{sum_by-cons}

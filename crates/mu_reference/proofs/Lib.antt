@@ -1,5 +1,4 @@
 pub mod Places
-pub mod Asked
 pub mod Changes
 pub mod Answered
 pub mod Received

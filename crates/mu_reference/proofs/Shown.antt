@@ -1,5 +1,5 @@
 -- What a sound node tells can be shown.
-use Rattle.std.proofs.Common.{◌≡◌, ◌≤◌, ◌<◌, ◌+◌, ℕ, zero, suc, Bool, true, false, List, [], ◌∷◌, length, map, take, drop, refl, sym, ap, subst, ◌∙◌, cond, arith, Option, Some, None}
+use Rattle.std.proofs.Common.{◌≡◌, ◌≤◌, ◌<◌, ℕ, zero, suc, Bool, true, false, List, [], ◌∷◌, length, take, drop, refl, ap, cond, arith, Option, Some, None}
 use Rattle.std.specs.Prelude.{nat_lt, ◌==◌, is_some}
 use Rattle.std.proofs.lemmas.Bool.Decides.{nat_tests}
 use Rattle.std.proofs.lemmas.List.{length-map}
@@ -11,13 +11,13 @@ use Rattle.mu_model_wire.specs.declared.reports.Report.TheVariants.{All, Nothing
 use Rattle.mu_model_image.specs.Meta.{Image}
 use Rattle.mu_model_node.specs.declared.Parameters.{Parameters}
 use Rattle.mu_model_node.specs.Slots.{Slots, is_full, missing}
-use Rattle.mu_model_node.specs.BlobServer.{Transfer, CurrentBlock, Session, Serving, NoJob, Lacking, Whole, serving_phase, transfer_phase, NextBlock, NextChunk, Complete, Suspended}
+use Rattle.mu_model_node.specs.BlobServer.{Transfer, CurrentBlock, Session, Lacking, serving_phase, transfer_phase, NextChunk}
 use Rattle.mu_model_node.specs.declared.Link.{Link}
 use Rattle.mu_model_node.specs.declared.Link.TheVariants.{Cut, Ready, Running}
 use Rattle.mu_model_node.specs.declared.Stored.{Stored}
 use Rattle.mu_model_node.specs.declared.Stored.TheVariants.{Filling, Verified, Refused, Applied}
 use Rattle.mu_model_node.specs.NodeState.{Job, NodeState, UpdatePhase, Idle, TransferError, TransferActive, Verifying, Succeeded, Failed, Applying, update_number, link_phase, filling_phase, stored_phase, job_phase, serving_in, transfer_of, blob_phase}
-use Rattle.mu_model_node.specs.Sound.{AreBlocks, HasBlocks, IsWhole, StoredIs, IsJob, HasJob, IsNodeState, IsTransfer, IsPhase}
+use Rattle.mu_model_node.specs.Sound.{HasBlocks, StoredIs, HasJob, IsNodeState, IsTransfer, IsPhase}
 use Rattle.mu_reference.specs.Words.{ids_of}
 use Rattle.mu_reference.specs.UpdateRows.{JobIs}
 use Rattle.mu_reference.specs.Fits.{IsShown}

@@ -2,8 +2,8 @@
 use Rattle.std.specs.Prelude.{ℕ, ◌≡◌, ◌<◌, true, false, List, [], length, Option, None, Some, if◌then◌else◌}
 use Rattle.mu_blob_rows.specs.Sessions.{link_by}
 use Rattle.mu_model_node.specs.declared.Parameters.{Parameters}
-use Rattle.mu_model_node.specs.BlobServer.{CurrentBlock, Session, unlinked, heard_at, linked, Serving, NoJob, Lacking, Whole, Server, BlobPhase, NextChunk, Change, Same, Begins, Drops, Puts}
-use Rattle.mu_model_node.specs.BlobTable.{Served, silently, tell, tell_block, receives, is_pull, to_client}
+use Rattle.mu_model_node.specs.BlobServer.{CurrentBlock, Session, unlinked, heard_at, Serving, NoJob, Lacking, Whole, Server, BlobPhase, NextChunk, Same, Puts}
+use Rattle.mu_model_node.specs.BlobTable.{Served, silently, tell_block, receives, is_pull, to_client}
 use Rattle.mu_model_node.specs.NodeState.{Job, NodeState, server_of as node_server}
 use Rattle.mu_model_node.specs.NodeOutcome.{with_session}
 use Rattle.mu_model_node.specs.Slots.{Slots, empty, at, put, is_full, joined}

@@ -1,5 +1,5 @@
 -- The node in memory as the model's node.
-use Rattle.std.specs.Prelude.{map, Option, Some, None}
+use Rattle.std.specs.Prelude.{map}
 use Rattle.mu_blob_rows.specs.Sessions.{session_of as session_with}
 use Rattle.mu_model_node.specs.There.{there}
 use Rattle.mu_model_image.specs.Meta.{Image}

@@ -13,9 +13,7 @@ ghost use Rattle.mu_blob_rows.specs.Rows.{told_by};
 ghost use Rattle.mu_reference.specs.Outcomes.{BeginsWithin, ServedAs};
 
 use crate::blob_events::{Served, transfer_reply};
-use crate::blob_table::{
-    BlockTold, Told, on_block_get, on_block_start,
-};
+use crate::blob_table::{BlockTold, Told, on_block_get, on_block_start};
 use crate::messages::{BlobAnswer, BlobReply};
 use crate::phases::BlobPhase;
 use crate::recording::Stop;

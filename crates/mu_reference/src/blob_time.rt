@@ -11,11 +11,10 @@ ghost use Rattle.mu_reference.specs.Outcomes.{ServedAs};
 use crate::blob_events::Served;
 use crate::chunks::nothing;
 use crate::messages::{BlobAnswer, BlobReply};
-use crate::timing::{TimeStep, on_server_time};
+use crate::timing::TimeStep;
 use crate::values::{PullReport, State};
 use arrayvec::ArrayVec;
 use mu_model_node::FlashWork;
-use mu_model_node::laws::states_are_sound;
 
 /// A Partial Block Report.
 pub fn partial_report(chunks: ArrayVec<u16, 16>) -> BlobAnswer
@@ -35,14 +34,6 @@ fn numbers_of(chunks: &ArrayVec<u16, 16>) -> ArrayVec<u16, 16>
 }
 
 impl State {
-    pub(crate) fn time_step(&self) -> TimeStep
-        requires { IsNodeState (state_of self.now) }
-        ensures { on_server_time (server_of (state_of self.now)) (server_of (state_of self.now)).serving ≡ time_stepped (server_of (state_of self.now)) result }
-    {
-        states_are_sound();
-        on_server_time(self.server(), self.blob_phase())
-    }
-
     #[tactic(auto, using(crate::proofs::Changes::same_after))]
     fn ask(&mut self, chunks: ArrayVec<u16, 16>) -> Served
         ensures { ServedAs (state_of self.old) (time_stepped (server_of (state_of self.old)) (TimeStep.Ask chunks)) (Ok result) (state_of self.new) }

@@ -35,6 +35,6 @@ pub use node_time::TimeKind;
 pub use phases::{BlobPhase, Serving, UpdatePhase, blob_phase, serving_at, update_phase};
 pub use recording::Stop;
 pub use slots::{Octets, Slots};
-pub use timing::{TimeStep, is_late, on_server_time};
+pub use timing::TimeStep;
 pub use update_table::{UpdateStep, Updated};
 pub use values::{CurrentBlock, Image, Job, PullReport, Session, State};

@@ -1,7 +1,7 @@
 // A place for each number below a bound, with octets or nothing.
 ghost use Rattle.std.specs.Prelude.{ℕ, List, ◌≡◌, ◌≤◌, ◌<◌, ◌++◌, true, if◌then◌else◌, length, is_some, is_none, slice_set, IfOk, None};
 ghost use Rattle.mu_reference.specs.Words.{piece_at};
-ghost use Rattle.mu_model_node.specs.Slots.{empty, at, put, is_full, missing, joined, held_count};
+ghost use Rattle.mu_model_node.specs.Slots.{empty, at, put, is_full, received, missing, joined, held_count};
 
 use mu_report::NumberSet;
 use std::alloc::{AllocError, Global};
@@ -187,6 +187,15 @@ impl Slots {
             note(&mut set, index as u16, place);
         }
         set
+    }
+
+    /// The set of the places with something.
+    #[tactic(auto, using(crate::proofs::Looked::missing_of_missing))]
+    pub fn received(&self) -> NumberSet
+        requires { length self.now ≤ 2048 }
+        ensures { result ≡ received self.now }
+    {
+        self.missing().missing()
     }
 }
 

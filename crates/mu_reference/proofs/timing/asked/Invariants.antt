@@ -1,6 +1,0 @@
-use Rattle.std.proofs.Common.{◌≡◌}
-use Rattle.mu_reference.proofs.Asked.{first_asked}
-use Rattle.mu_reference.proofs.timing.asked.Given as goal
-
-abbrev pub invariant-loop-chunk : goal.invariant-loop-chunk
-invariant-loop-chunk l = l.chunks.items ≡ first_asked l.missing l.chunk
