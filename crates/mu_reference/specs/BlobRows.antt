@@ -1,17 +1,17 @@
 -- What the functions of the BLOB table return, as the model's outcomes.
-use Rattle.std.specs.Prelude.{ℕ, ◌≡◌, ◌<◌, true, false, List, [], length, Option, None, Some, if◌then◌else◌}
-use Rattle.mu_blob_rows.specs.Sessions.{link_by}
+use Rattle.std.specs.Prelude.{ℕ, ◌≡◌, ◌<◌, ◌≤◌, true, false, List, [], length, Option, None, Some, if◌then◌else◌}
 use Rattle.mu_model_node.specs.declared.Parameters.{Parameters}
 use Rattle.mu_model_node.specs.BlobServer.{CurrentBlock, Session, unlinked, heard_at, Serving, NoJob, Lacking, Whole, Server, BlobPhase, NextChunk, Same, Puts}
-use Rattle.mu_model_node.specs.BlobTable.{Served, silently, tell_block, receives, is_pull, to_client}
+use Rattle.mu_model_node.specs.BlobTable.{Served, silently, receives, is_pull, to_client}
 use Rattle.mu_model_node.specs.NodeState.{Job, NodeState, server_of as node_server}
 use Rattle.mu_model_node.specs.NodeOutcome.{with_session}
-use Rattle.mu_model_node.specs.Slots.{Slots, empty, at, put, is_full, joined}
+use Rattle.mu_model_node.specs.Slots.{Slots, at, put, is_full, joined}
 use Rattle.mu_reference.specs.View.{session_of, serving_of}
 use Rattle.mu_reference.specs.declared.blob_table.Server.{Server as ServerHere}
-use Rattle.mu_reference.specs.declared.blob_table.SessionChange.{SessionChange}
-use Rattle.mu_reference.specs.declared.blob_table.SessionChange.TheVariants.{Link, Holds, Opens}
-use Rattle.mu_reference.specs.declared.blob_table.BlockTold.{BlockTold}
+use Rattle.mu_blob_rows.specs.declared.session.SessionChange.{SessionChange}
+use Rattle.mu_blob_rows.specs.declared.session.SessionChange.TheVariants.{Opens}
+use Rattle.mu_model_image.specs.Pieces.{block_count}
+use Rattle.mu_model_node.specs.BlobMessages.{least_log, most_log, least_chunk, most_chunk}
 use Rattle.mu_reference.specs.declared.timing.TimeStep.{TimeStep}
 use Rattle.mu_reference.specs.declared.timing.TimeStep.TheVariants.{Wait, Unlink, Ask}
 use Rattle.mu_reference.specs.declared.blob_table.ChunkStep.{ChunkStep}
@@ -37,13 +37,11 @@ chunks_by s = chunks_in s.session.current
 abbrev pub server_of : ServerHere → Server
 server_of v = record { capacity = v.capacity; serving = serving_of v.serving; session = session_of v.session.now; now = v.now }
 
-abbrev pub session_by : SessionChange → ℕ → ℕ → Session → Session
-session_by (Link change) now from l = link_by change now from l
-session_by (Holds block size) now from l = heard_at now (record l { last = Some (record { number = block; chunk_size = size }) })
-session_by (Opens block size count) now from l = heard_at now (record l { current = Some (record { number = block; chunk_size = size; chunks = empty count }); report = None })
-
-abbrev pub block_told_by : Server → ℕ → BlockTold → Served
-block_told_by v to told = tell_block (session_by told.session v.now to v.session) to told.status told.block told.chunk_size told.report
+-- a block that is opened is one of a transfer within 256 pages
+abbrev pub OpensWithin : SessionChange → Type 0
+OpensWithin (Opens p block size) =
+    (p.size ≤ 1048576) × (least_log ≤ p.log) × (p.log ≤ most_log) × (block < block_count p.size p.log) × (least_chunk ≤ size) × (size ≤ most_chunk)
+OpensWithin _ = Unit {0}
 
 abbrev pub chunk_stepped : Server → ℕ → List ℕ → BlobPhase → ChunkStep → Served
 chunk_stepped v chunk octets phase PassOver = silently v.session

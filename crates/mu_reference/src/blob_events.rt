@@ -14,11 +14,12 @@ ghost use Rattle.mu_reference.specs.BlobRows.{server_of as server_here};
 ghost use Rattle.mu_blob_rows.specs.Rows.{change_by, told_by};
 ghost use Rattle.mu_reference.specs.Outcomes.{BeginsWithin, ChangedAs};
 
-use crate::blob_table::{Server, Told, TransferChange};
+use crate::blob_table::Server;
 use crate::messages::{BlobAnswer, BlobReply};
 use crate::phases::{BlobPhase, serving_at, update_phase};
 use crate::recording::Stop;
 use crate::values::{Job, State};
+use mu_blob_rows::{Told, TransferChange};
 use mu_model_node::{FlashWork, Parameters};
 use mu_report::NumberSet;
 use std::alloc::Global;

@@ -7,17 +7,19 @@ ghost use Rattle.mu_model_node.specs.BlobTable.{transfer_status, on_blob};
 ghost use Rattle.mu_model_node.specs.NodeState.{server_of, blob_phase};
 ghost use Rattle.mu_model_node.specs.Sound.{AreInRange, IsNodeState};
 ghost use Rattle.mu_reference.specs.View.{state_of, blob_phase_of};
-ghost use Rattle.mu_blob_answers.specs.Fits.{IsShort};
-ghost use Rattle.mu_reference.specs.BlobRows.{block_told_by};
-ghost use Rattle.mu_blob_rows.specs.Rows.{told_by};
+ghost use Rattle.mu_model_node.specs.Slots.{missing};
+ghost use Rattle.mu_blob_answers.specs.Fits.{CanReport};
+ghost use Rattle.mu_reference.specs.BlobRows.{chunks_by, OpensWithin};
+ghost use Rattle.mu_blob_rows.specs.Rows.{told_by, block_told_by};
 ghost use Rattle.mu_reference.specs.Outcomes.{BeginsWithin, ServedAs};
 
 use crate::blob_events::{Served, transfer_reply};
-use crate::blob_table::{BlockTold, Told, on_block_get, on_block_start};
 use crate::messages::{BlobAnswer, BlobReply};
 use crate::phases::BlobPhase;
 use crate::recording::Stop;
 use crate::values::State;
+use mu_blob_answers::block_reply;
+use mu_blob_rows::{BlockTold, Told};
 use mu_model_node::laws::{states_are_sound, told_phase};
 use mu_model_node::{FlashWork, Parameters};
 use std::alloc::Global;
@@ -148,40 +150,42 @@ impl State {
     fn block_start_told(&self, block: u16, chunk_size: u16) -> BlockTold
         requires { IsNodeState (state_of self.now) }
         ensures known { result.status ≤ 7 }
-        ensures short { IsShort result.report }
-        ensures told { (from : ℕ) → on_blob (server_of (state_of self.now)) from (BlockStart block chunk_size) ≡ block_told_by (server_of (state_of self.now)) from result }
+        ensures within { OpensWithin result.session }
+        ensures report { CanReport result.report (missing (chunks_by (state_of self.now))) }
+        ensures told { (from : ℕ) → on_blob (server_of (state_of self.now)) from (BlockStart block chunk_size) ≡ block_told_by (server_of (state_of self.now)) from (chunks_by (state_of self.now)) result }
     {
         states_are_sound();
-        on_block_start(block, chunk_size, self.blob_phase())
+        let blocks = self.blocks_look(block);
+        self.look().block_start(block, chunk_size, blocks)
     }
 
     fn block_get_told(&self) -> BlockTold
         requires { IsNodeState (state_of self.now) }
         ensures known { result.status ≤ 7 }
-        ensures short { IsShort result.report }
-        ensures told { (from : ℕ) → on_blob (server_of (state_of self.now)) from BlockGet ≡ block_told_by (server_of (state_of self.now)) from result }
+        ensures within { OpensWithin result.session }
+        ensures report { CanReport result.report (missing (chunks_by (state_of self.now))) }
+        ensures told { (from : ℕ) → on_blob (server_of (state_of self.now)) from BlockGet ≡ block_told_by (server_of (state_of self.now)) from (chunks_by (state_of self.now)) result }
     {
         states_are_sound();
-        on_block_get(self.server(), self.blob_phase())
+        self.look().block_get()
     }
 
     /// Does what a Block row says.
     #[tactic(auto, using(crate::proofs::Changes::same_after))]
     fn tell_block(&mut self, alloc: Global, from: u16, told: BlockTold) -> Result<Served, Stop>
+        requires sound { IsNodeState (state_of self.old) }
         requires known { told.status ≤ 7 }
-        requires short { IsShort told.report }
-        ensures { ServedAs (state_of self.old) (block_told_by (server_of (state_of self.old)) from told) result (state_of self.new) }
+        requires within { OpensWithin told.session }
+        requires report { CanReport told.report (missing (chunks_by (state_of self.old))) }
+        ensures { ServedAs (state_of self.old) (block_told_by (server_of (state_of self.old)) from (chunks_by (state_of self.old)) told) result (state_of self.new) }
     {
+        states_are_sound();
         let now = self.moment;
+        let missing = self.session.missing();
         if self.session.change(alloc, told.session, now, from).is_err() {
             return Err(Stop::NoMemory);
         }
-        let reply = BlobAnswer::new(BlobReply::BlockStatus {
-            status: told.status,
-            block: told.block,
-            chunk_size: told.chunk_size,
-            report: told.report,
-        });
+        let reply = block_reply(told, &missing);
         Ok(Served {
             reply: Some((from, reply)),
             work: FlashWork::Untouched,

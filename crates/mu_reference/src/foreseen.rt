@@ -19,13 +19,14 @@ ghost use Rattle.mu_reference.specs.Messages.{request_of};
 ghost use Rattle.mu_update_rows.specs.Messages.{update_request_of, update_start_of};
 ghost use Rattle.mu_blob_answers.specs.Messages.{blob_request_of};
 
-use crate::blob_table::{ChunkStep, TransferChange};
+use crate::blob_table::ChunkStep;
 use crate::chunks::pages_of;
 use crate::messages::{BlobRequest, Request, UpdateRequest, UpdateStart};
 use crate::node_time::TimeKind;
 use crate::timing::TimeStep;
 use crate::update_table::UpdateStep;
 use crate::values::State;
+use mu_blob_rows::TransferChange;
 use mu_model_node::FlashWork;
 use mu_model_node::laws::{chunks_are_of_the_job, states_are_sound};
 use std::alloc::{AllocError, Global};

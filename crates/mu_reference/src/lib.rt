@@ -23,13 +23,12 @@ mod update_table;
 mod values;
 
 pub use blob_events::{Served, transfer_reply};
-pub use blob_table::{
-    BlockTold, ChunkStep, LinkChange, Server, SessionChange, Told, TransferChange,
-};
+pub use blob_table::{ChunkStep, Server};
 pub use messages::{
     BlobAnswer, BlobReply, BlobRequest, Request, ShownJob, UpdateAnswer, UpdateReply,
     UpdateRequest, UpdateStart,
 };
+pub use mu_blob_rows::{BlockTold, LinkChange, SessionChange, Told, TransferChange};
 pub use node::{Done, Reply};
 pub use node_time::TimeKind;
 pub use phases::{BlobPhase, Serving, UpdatePhase, blob_phase, serving_at, update_phase};

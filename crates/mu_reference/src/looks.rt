@@ -1,5 +1,7 @@
 // The node as the rows of the BLOB table look at it.
-ghost use Rattle.std.specs.Prelude.{◌≡◌};
+ghost use Rattle.std.specs.Prelude.{◌≡◌, ◌≤◌, length};
+ghost use Rattle.mu_model_node.specs.Sound.{IsNodeState};
+ghost use Rattle.mu_blob_rows.specs.Rows.{BlocksLookSo};
 ghost use Rattle.mu_model_node.specs.There.{there};
 ghost use Rattle.mu_model_node.specs.NodeState.{transfer_of, server_of};
 ghost use Rattle.mu_blob_rows.specs.Looks.{transfer_with, serving_with, current_with, server_with};
@@ -8,7 +10,7 @@ ghost use Rattle.mu_reference.specs.BlobRows.{held_in, chunks_in, held_by, chunk
 
 use crate::phases::{Serving, serving_at, update_phase};
 use crate::values::{CurrentBlock, Job, State};
-use mu_blob_rows::{BlockLook, Look, Serving as ServingLook, TransferLook};
+use mu_blob_rows::{BlockLook, BlocksLook, Look, Serving as ServingLook, TransferLook};
 
 fn transfer_look(job: &Job) -> TransferLook
     ensures { transfer_with result job.now.held ≡ transfer_of (job_of job.now) }
@@ -43,7 +45,32 @@ fn block_look(current: &Option<CurrentBlock>) -> Option<BlockLook>
     }
 }
 
+fn blocks_of<'a>(serving: Serving<'a>, block: u16) -> BlocksLook
+    requires { length (held_in (serving_of serving)) ≤ 256 }
+    ensures { BlocksLookSo (held_in (serving_of serving.entry)) block result }
+{
+    match serving {
+        Serving::NoJob => BlocksLook {
+            count: 0,
+            is_held: false,
+        },
+        Serving::Lacking(job) | Serving::Whole(job) => BlocksLook {
+            count: job.held.len() as u16,
+            is_held: job.held.has(usize::from(block)),
+        },
+    }
+}
+
 impl State {
+    /// What a Block Start looks at of the blocks.
+    pub fn blocks_look(&self, block: u16) -> BlocksLook
+        requires { IsNodeState (state_of self.now) }
+        ensures { BlocksLookSo (held_by (state_of self.now)) block result }
+    {
+        let phase = update_phase(&self.job, self.session.rest.link);
+        blocks_of(serving_at(phase), block)
+    }
+
     /// The node as the rows of the BLOB table look at it.
     pub fn look<'a>(&'a self) -> Look<'a>
         ensures server { server_with result (held_by (state_of self.now)) (chunks_by (state_of self.now)) ≡ server_of (state_of self.now) }

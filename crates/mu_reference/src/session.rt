@@ -1,15 +1,18 @@
 // Changes of what isn't kept over a power cut.
-ghost use Rattle.std.specs.Prelude.{◌≡◌, IfOk, OnErr};
+ghost use Rattle.std.specs.Prelude.{◌≡◌, ◌≤◌, length, IfOk, OnErr};
+ghost use Rattle.mu_model_node.specs.Slots.{missing};
 ghost use Rattle.mu_model_node.specs.BlobServer.{asleep, unlinked, made_ready};
 ghost use Rattle.mu_model_node.specs.There.{there};
 ghost use Rattle.mu_reference.specs.View.{current_of, session_of};
-ghost use Rattle.mu_reference.specs.BlobRows.{session_by};
-ghost use Rattle.mu_blob_rows.specs.Sessions.{link_by, current_by_link};
+ghost use Rattle.mu_reference.specs.BlobRows.{chunks_in, OpensWithin};
+ghost use Rattle.mu_blob_rows.specs.Sessions.{link_by, session_by, opened, current_by_link};
 
-use crate::blob_table::{LinkChange, SessionChange};
 use crate::slots::Slots;
 use crate::values::{CurrentBlock, RowSession, Session};
-use mu_model_node::LastBlock;
+use mu_arith::{block_len, chunk_count};
+use mu_blob_rows::{LinkChange, SessionChange};
+use mu_model_node::Parameters;
+use mu_report::NumberSet;
 use std::alloc::{AllocError, Global};
 
 fn close_by(current: &mut Option<CurrentBlock>, change: LinkChange)
@@ -18,6 +21,25 @@ fn close_by(current: &mut Option<CurrentBlock>, change: LinkChange)
     if let LinkChange::Unlinks = change {
         *current = None;
     }
+}
+
+fn open_block(
+    alloc: Global,
+    parameters: Parameters,
+    block: u16,
+    chunk_size: u16,
+) -> Result<CurrentBlock, AllocError>
+    requires { OpensWithin (SessionChange.Opens parameters block chunk_size) }
+    ensures { IfOk result (λ current. current_of current ≡ opened parameters block chunk_size) }
+{
+    let octets = block_len(parameters.size, parameters.log, block);
+    let count = chunk_count(octets, chunk_size);
+    let chunks = Slots::empty(alloc, usize::from(count))?;
+    Ok(CurrentBlock {
+        number: block,
+        chunk_size,
+        chunks,
+    })
 }
 
 impl Session {
@@ -62,33 +84,33 @@ impl Session {
         now: u64,
         from: u16,
     ) -> Result<(), AllocError>
+        requires { OpensWithin change }
         ensures ok { IfOk result (λ _. session_of self.new ≡ session_by change now from (session_of self.old)) }
         ensures err { OnErr result (self.new ≡ self.old) }
     {
         match change {
             SessionChange::Link(change) => self.link(change, now, from),
-            SessionChange::Holds { block, chunk_size } => {
-                self.rest.last = Some(LastBlock {
-                    number: block,
-                    chunk_size,
-                });
-                self.rest.heard = now;
-            }
+            SessionChange::Holds { .. } => self.rest.change(change, now, from),
             SessionChange::Opens {
+                parameters,
                 block,
                 chunk_size,
-                count,
             } => {
-                let chunks = Slots::empty(alloc, usize::from(count))?;
-                self.current = Some(CurrentBlock {
-                    number: block,
-                    chunk_size,
-                    chunks,
-                });
-                self.rest.report = None;
-                self.rest.heard = now;
+                self.current = Some(open_block(alloc, parameters, block, chunk_size)?);
+                self.rest.change(change, now, from);
             }
         }
         Ok(())
+    }
+
+    /// The set of the chunks that are missing of the block that comes; the empty set below 0 where none comes.
+    pub fn missing(&self) -> NumberSet
+        requires { length (chunks_in (session_of self.now).current) ≤ 2048 }
+        ensures { result ≡ missing (chunks_in (session_of self.now).current) }
+    {
+        match &self.current {
+            None => NumberSet::new(0),
+            Some(current) => current.chunks.missing(),
+        }
     }
 }
