@@ -1,17 +1,10 @@
 -- What a sound node tells can be shown.
-use Rattle.std.proofs.Common.{◌≡◌, ◌≤◌, ◌<◌, ℕ, zero, suc, Bool, true, false, List, [], ◌∷◌, length, take, drop, refl, ap, cond, arith, Option, Some, None}
-use Rattle.std.specs.Prelude.{nat_lt, ◌==◌, is_some}
-use Rattle.std.proofs.lemmas.Bool.Decides.{nat_tests}
-use Rattle.std.proofs.lemmas.List.{length-map}
-use Rattle.std.proofs.lemmas.List.FromFn.{length-map-range_with_len}
-use Rattle.mu_model_wire.specs.Patterns.{list_spelling}
-use Rattle.mu_model_wire.specs.Reports.{members, field_length, bit_field, report_of}
-use Rattle.mu_model_wire.specs.declared.reports.Report.{Report}
-use Rattle.mu_model_wire.specs.declared.reports.Report.TheVariants.{All, Nothing, Bits, List as Listed}
+use Rattle.std.proofs.Common.{◌≡◌, ◌≤◌, ◌<◌, ℕ, zero, suc, Bool, true, false, List, [], ◌∷◌, take, drop, refl, ap, cond, arith, Option, Some, None}
+use Rattle.std.specs.Prelude.{is_some}
 use Rattle.mu_model_image.specs.Meta.{Image}
 use Rattle.mu_model_node.specs.declared.Parameters.{Parameters}
-use Rattle.mu_model_node.specs.Slots.{Slots, is_full, missing}
-use Rattle.mu_model_node.specs.BlobServer.{Transfer, CurrentBlock, Session, Lacking, serving_phase, transfer_phase, NextChunk}
+use Rattle.mu_model_node.specs.Slots.{Slots, is_full}
+use Rattle.mu_model_node.specs.BlobServer.{Transfer, CurrentBlock, Session, Lacking, serving_phase, transfer_phase}
 use Rattle.mu_model_node.specs.declared.Link.{Link}
 use Rattle.mu_model_node.specs.declared.Link.TheVariants.{Cut, Ready, Running}
 use Rattle.mu_model_node.specs.declared.Stored.{Stored}
@@ -22,30 +15,7 @@ use Rattle.mu_reference.specs.Words.{ids_of}
 use Rattle.mu_reference.specs.UpdateRows.{JobIs}
 use Rattle.mu_reference.specs.Fits.{IsShown}
 use Rattle.mu_update_rows.specs.Fits.{AreIds}
-use Rattle.mu_blob_answers.specs.Fits.{CanShow, IsShort, HasShown}
-
--- ---- reports
-
-short_listed : (n : ℕ) (set : List Bool) (b : Bool) → nat_lt n (field_length (length set)) ≡ b → n ≡ length (list_spelling (members set)) → length set ≤ 2048 → IsShort (cond b (Listed (record { items = members set })) (Bits (record { items = bit_field set })))
-short_listed n set true e k h = let below : n < field_length (length set) = grind (arith, nat_tests) in omega arith
-short_listed n set false e k h = let count : length (bit_field set) ≡ field_length (length set) = length-map-range_with_len _ 0 (field_length (length set)) in omega arith
-
-by_test : (b : Bool) (x y : Report) → IsShort x → IsShort y → IsShort (cond b x y)
-by_test true x y h k = h
-by_test false x y h k = k
-
-pub report_is_short : (set : List Bool) → length set ≤ 2048 → IsShort (report_of set)
-report_is_short set h =
-    by_test (length (members set) == length set) All _ tt
-    (by_test (length (members set) == 0) Nothing _ tt (short_listed (length (list_spelling (members set))) set _ refl refl h))
-
--- so of the missing chunks of a block
-pub chunks_are_short : (t : Transfer) (p : Parameters) (c : CurrentBlock) (set : List Bool) → IsPhase (NextChunk t p c) → set ≡ missing c.chunks → IsShort (report_of set)
-chunks_are_short t p c set h e =
-    let count : length (missing c.chunks) ≡ length c.chunks = length-map c.chunks _ in
-    let few : length c.chunks ≤ 2048 = h.few_chunks in
-    let same : length set ≡ length (missing c.chunks) = ap length e in
-    report_is_short set (omega arith)
+use Rattle.mu_blob_answers.specs.Fits.{CanShow, HasShown}
 
 -- ---- phases
 

@@ -14,11 +14,11 @@ ghost use Rattle.mu_blob_rows.specs.Rows.{told_by, block_told_by};
 ghost use Rattle.mu_reference.specs.Outcomes.{BeginsWithin, ServedAs};
 
 use crate::blob_events::{Served, transfer_reply};
-use crate::messages::{BlobAnswer, BlobReply};
+use crate::messages::BlobAnswer;
 use crate::phases::BlobPhase;
 use crate::recording::Stop;
 use crate::values::State;
-use mu_blob_answers::block_reply;
+use mu_blob_answers::{block_reply, information_reply};
 use mu_blob_rows::{BlockTold, Told};
 use mu_model_node::laws::{states_are_sound, told_phase};
 use mu_model_node::{FlashWork, Parameters};
@@ -88,11 +88,8 @@ impl State {
     pub fn on_blob_information_get(&self, from: u16) -> Served
         ensures { ServedAs (state_of self.now) (on_blob (server_of (state_of self.now)) from BlobInformationGet) (Ok result) (state_of self.now) }
     {
-        let reply = BlobAnswer::new(BlobReply::BlobInformationStatus {
-            capacity: self.capacity,
-        });
         Served {
-            reply: Some((from, reply)),
+            reply: Some((from, information_reply(self.capacity))),
             work: FlashWork::Untouched,
         }
     }

@@ -1,6 +1,5 @@
 // What a node's BLOB server does as time passes.
 ghost use Rattle.std.specs.Prelude.{◌≡◌};
-ghost use Rattle.mu_model_node.specs.BlobMessages.{PartialBlockReport};
 ghost use Rattle.mu_model_node.specs.BlobTable.{on_server_time};
 ghost use Rattle.mu_model_node.specs.NodeState.{server_of};
 ghost use Rattle.mu_model_node.specs.Sound.{IsNodeState};
@@ -10,18 +9,11 @@ ghost use Rattle.mu_reference.specs.Outcomes.{ServedAs};
 
 use crate::blob_events::Served;
 use crate::chunks::nothing;
-use crate::messages::{BlobAnswer, BlobReply};
 use crate::timing::TimeStep;
 use crate::values::{PullReport, State};
 use arrayvec::ArrayVec;
+use mu_blob_answers::partial_reply;
 use mu_model_node::FlashWork;
-
-/// A Partial Block Report.
-pub fn partial_report(chunks: ArrayVec<u16, 16>) -> BlobAnswer
-    ensures { result ≡ PartialBlockReport chunks.items }
-{
-    BlobAnswer::new(BlobReply::PartialBlockReport { chunks })
-}
 
 fn numbers_of(chunks: &ArrayVec<u16, 16>) -> ArrayVec<u16, 16>
     ensures { result.items ≡ chunks.now.items }
@@ -45,7 +37,7 @@ impl State {
         });
         let reply = match self.session.rest.client {
             None => None,
-            Some(client) => Some((client, partial_report(chunks))),
+            Some(client) => Some((client, partial_reply(chunks))),
         };
         Served {
             reply,

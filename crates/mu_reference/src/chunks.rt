@@ -12,11 +12,11 @@ ghost use Rattle.mu_reference.specs.Outcomes.{ServedAs};
 
 use crate::blob_events::Served;
 use crate::blob_table::{ChunkStep, on_chunk_transfer};
-use crate::blob_time::partial_report;
 use crate::recording::Stop;
 use crate::slots::Octets;
 use crate::values::State;
 use arrayvec::ArrayVec;
+use mu_blob_answers::partial_reply;
 use mu_model_node::laws::{chunks_are_of_the_job, states_are_sound};
 use mu_model_node::{FlashWork, LastBlock, Parameters};
 use std::alloc::{AllocError, Global};
@@ -79,7 +79,7 @@ impl State {
         });
         self.session.rest.report = None;
         let reply = match self.session.rest.client {
-            Some(client) if parameters.mode == 2 => Some((client, partial_report(ArrayVec::new()))),
+            Some(client) if parameters.mode == 2 => Some((client, partial_reply(ArrayVec::new()))),
             _ => None,
         };
         Served {
