@@ -151,3 +151,10 @@ pub never_opens : (v : Look) (change : SessionChange) → SessionFits v (record 
 never_opens v (Link change) f = tt
 never_opens v (Holds n size) f = tt
 never_opens v (Opens p n size) f = absurd (cc f.4)
+
+pub few_missing : (s : NodeState) (phase : UpdatePhase) (set : List Bool) → IsNodeState s → JobIs phase s.durable.job → set ≡ missing (held_in (serving_in phase)) → length set ≤ 256
+few_missing s phase set h k e =
+    let count : length (missing (held_in (serving_in phase))) ≡ length (held_in (serving_in phase)) = length-map (held_in (serving_in phase)) _ in
+    let few : length (held_in (serving_in phase)) ≤ 256 = few_held s phase h k in
+    let same : length set ≡ length (missing (held_in (serving_in phase))) = ap length e in
+    omega arith

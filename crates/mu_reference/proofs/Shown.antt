@@ -11,6 +11,10 @@ use Rattle.mu_model_node.specs.declared.Stored.{Stored}
 use Rattle.mu_model_node.specs.declared.Stored.TheVariants.{Filling, Verified, Refused, Applied}
 use Rattle.mu_model_node.specs.NodeState.{Job, NodeState, UpdatePhase, Idle, TransferError, TransferActive, Verifying, Succeeded, Failed, Applying, update_number, link_phase, filling_phase, stored_phase, job_phase, serving_in, transfer_of, blob_phase}
 use Rattle.mu_model_node.specs.Sound.{HasBlocks, StoredIs, HasJob, IsNodeState, IsTransfer, IsPhase}
+use Rattle.mu_blob_rows.specs.declared.looks.BlobPhase.{BlobPhase as PhaseLook}
+use Rattle.mu_blob_rows.specs.declared.looks.BlobPhase.TheVariants.{Inactive as InactiveLook, WaitingForStart as WaitingLook, NextBlock as BlockLook, NextChunk as ChunkLook, Complete as CompleteLook, Suspended as SuspendedLook}
+use Rattle.mu_blob_rows.specs.Looks.{phase_with}
+use Rattle.mu_blob_answers.specs.Fits.{IsShown as LookIsShown}
 use Rattle.mu_reference.specs.Words.{ids_of}
 use Rattle.mu_reference.specs.UpdateRows.{JobIs}
 use Rattle.mu_reference.specs.Fits.{IsShown}
@@ -63,6 +67,15 @@ job_shown capacity images l link (Some j) k h = stored_shown j l link j.stored k
 
 pub phase_is_shown : (s : NodeState) → IsNodeState s → IsPhase (blob_phase s) → IsShown (blob_phase s)
 phase_is_shown s k h = job_shown s.durable.capacity s.durable.images s.session s.session.link s.durable.job k.durable.job h
+
+-- so of the phase that a look finds
+pub look_is_shown : (phase : PhaseLook) (held chunks : Slots) → IsShown (phase_with phase held chunks) → LookIsShown phase
+look_is_shown InactiveLook held chunks h = tt
+look_is_shown (WaitingLook t) held chunks h = tt
+look_is_shown (BlockLook t p) held chunks h = h.0
+look_is_shown (ChunkLook t p b) held chunks h = h.0
+look_is_shown (CompleteLook t) held chunks h = h.0
+look_is_shown (SuspendedLook t p) held chunks h = h.0
 
 -- ---- update replies
 

@@ -1,27 +1,21 @@
 // What a node does with a BLOB message, and as time passes while blocks are missing.
-ghost use Rattle.std.specs.Prelude.{◌≡◌, ◌≤◌, [], length, None, Some};
-ghost use Rattle.mu_model_node.specs.BlobTable.{mode_of, transfer_status};
-ghost use Rattle.mu_model_node.specs.BlobMessages.{TransferStatus};
+ghost use Rattle.std.specs.Prelude.{◌≡◌, ◌≤◌};
 ghost use Rattle.mu_model_node.specs.BlobServer.{Begins, Drops};
-ghost use Rattle.mu_model_node.specs.Slots.{missing};
 ghost use Rattle.mu_model_node.specs.NodeState.{server_of};
 ghost use Rattle.mu_model_node.specs.NodeOutcome.{job_after, served};
 ghost use Rattle.mu_model_node.specs.Sound.{IsNodeState};
-ghost use Rattle.mu_reference.specs.View.{state_of, blob_phase_of};
-ghost use Rattle.mu_reference.specs.Fits.{IsShown};
-ghost use Rattle.mu_blob_answers.specs.Fits.{CanShow, HasShown, ShowsWhatItMay};
+ghost use Rattle.mu_reference.specs.View.{state_of};
 ghost use Rattle.mu_reference.specs.BlobRows.{server_of as server_here};
 ghost use Rattle.mu_blob_rows.specs.Rows.{change_by, told_by};
 ghost use Rattle.mu_reference.specs.Outcomes.{BeginsWithin, ChangedAs};
 
 use crate::blob_table::Server;
-use crate::messages::{BlobAnswer, BlobReply};
-use crate::phases::{BlobPhase, serving_at, update_phase};
+use crate::messages::BlobAnswer;
+use crate::phases::{serving_at, update_phase};
 use crate::recording::Stop;
-use crate::values::{Job, State};
+use crate::values::State;
 use mu_blob_rows::{Told, TransferChange};
 use mu_model_node::{FlashWork, Parameters};
-use mu_report::NumberSet;
 use std::alloc::Global;
 
 /// What came of a BLOB message or of time.
@@ -30,67 +24,6 @@ pub struct Served {
     /// The reply, with its destination.
     pub reply: Option<(u16, BlobAnswer)>,
     pub work: FlashWork,
-}
-
-fn bare_status(status: u8, phase: u8, id: Option<u64>) -> BlobAnswer
-    requires known { status ≤ 7 }
-    requires shows { ShowsWhatItMay phase id None }
-    ensures { result ≡ TransferStatus status 0 phase id None [] }
-{
-    BlobAnswer::new(BlobReply::TransferStatus {
-        status,
-        mode: 0,
-        phase,
-        id,
-        parameters: None,
-        missing: NumberSet::new(0),
-    })
-}
-
-fn full_status(status: u8, phase: u8, job: &Job, parameters: Parameters) -> BlobAnswer
-    requires known { status ≤ 7 }
-    requires least { 2 ≤ phase }
-    requires most { phase ≤ 5 }
-    requires shows { CanShow parameters }
-    requires few { length job.now.held ≤ 256 }
-    ensures { result ≡ TransferStatus status parameters.mode phase (Some job.now.id) (Some parameters) (missing job.now.held) }
-{
-    BlobAnswer::new(BlobReply::TransferStatus {
-        status,
-        mode: parameters.mode,
-        phase,
-        id: Some(job.id),
-        parameters: Some(parameters),
-        missing: job.held.missing(),
-    })
-}
-
-fn whole_status(status: u8, job: &Job) -> BlobAnswer
-    requires known { status ≤ 7 }
-    requires shows { HasShown job.now.parameters }
-    requires few { length job.now.held ≤ 256 }
-    ensures { result ≡ TransferStatus status (mode_of job.now.parameters) 4 (Some job.now.id) job.now.parameters (missing job.now.held) }
-{
-    match job.parameters {
-        None => bare_status(status, 0, None),
-        Some(parameters) => full_status(status, 4, job, parameters),
-    }
-}
-
-/// The Transfer Status of a phase.
-pub fn transfer_reply<'a>(status: u8, phase: BlobPhase<'a>) -> BlobAnswer
-    requires known { status ≤ 7 }
-    requires shown { IsShown (blob_phase_of phase) }
-    ensures { result ≡ transfer_status status (blob_phase_of phase.entry) }
-{
-    match phase {
-        BlobPhase::Inactive => bare_status(status, 0, None),
-        BlobPhase::WaitingForStart(job) => bare_status(status, 1, Some(job.id)),
-        BlobPhase::NextBlock(job, parameters) => full_status(status, 2, job, parameters),
-        BlobPhase::NextChunk(job, parameters, _) => full_status(status, 3, job, parameters),
-        BlobPhase::Complete(job) => whole_status(status, job),
-        BlobPhase::Suspended(job, parameters) => full_status(status, 5, job, parameters),
-    }
 }
 
 impl State {

@@ -13,12 +13,12 @@ ghost use Rattle.mu_reference.specs.BlobRows.{chunks_by, OpensWithin};
 ghost use Rattle.mu_blob_rows.specs.Rows.{told_by, block_told_by};
 ghost use Rattle.mu_reference.specs.Outcomes.{BeginsWithin, ServedAs};
 
-use crate::blob_events::{Served, transfer_reply};
+use crate::blob_events::Served;
 use crate::messages::BlobAnswer;
 use crate::phases::BlobPhase;
 use crate::recording::Stop;
 use crate::values::State;
-use mu_blob_answers::{block_reply, information_reply};
+use mu_blob_answers::{block_reply, information_reply, transfer_reply};
 use mu_blob_rows::{BlockTold, Told};
 use mu_model_node::laws::{states_are_sound, told_phase};
 use mu_model_node::{FlashWork, Parameters};
@@ -56,14 +56,14 @@ impl State {
     }
 
     /// The Transfer Status of the node.
-    #[tactic(auto, using(crate::proofs::Answered::phase_sound))]
     fn transfer_answer(&self, status: u8) -> BlobAnswer
         requires known { status ≤ 7 }
         requires sound { IsNodeState (state_of self.now) }
         ensures { result ≡ transfer_status status (blob_phase (state_of self.now)) }
     {
         states_are_sound();
-        transfer_reply(status, self.blob_phase())
+        let missing = self.blocks_missing();
+        transfer_reply(status, self.look().phase(), missing)
     }
 
     /// What a Transfer Start does.

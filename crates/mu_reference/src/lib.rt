@@ -22,7 +22,7 @@ mod timing;
 mod update_table;
 mod values;
 
-pub use blob_events::{Served, transfer_reply};
+pub use blob_events::Served;
 pub use blob_table::{ChunkStep, Server};
 pub use messages::{
     BlobAnswer, BlobReply, BlobRequest, Request, ShownJob, UpdateAnswer, UpdateReply,

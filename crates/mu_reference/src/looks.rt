@@ -2,6 +2,7 @@
 ghost use Rattle.std.specs.Prelude.{◌≡◌, ◌≤◌, length};
 ghost use Rattle.mu_model_node.specs.Sound.{IsNodeState};
 ghost use Rattle.mu_blob_rows.specs.Rows.{BlocksLookSo};
+ghost use Rattle.mu_model_node.specs.Slots.{missing};
 ghost use Rattle.mu_model_node.specs.There.{there};
 ghost use Rattle.mu_model_node.specs.NodeState.{transfer_of, server_of};
 ghost use Rattle.mu_blob_rows.specs.Looks.{transfer_with, serving_with, current_with, server_with};
@@ -11,6 +12,7 @@ ghost use Rattle.mu_reference.specs.BlobRows.{held_in, chunks_in, held_by, chunk
 use crate::phases::{Serving, serving_at, update_phase};
 use crate::values::{CurrentBlock, Job, State};
 use mu_blob_rows::{BlockLook, BlocksLook, Look, Serving as ServingLook, TransferLook};
+use mu_report::NumberSet;
 
 fn transfer_look(job: &Job) -> TransferLook
     ensures { transfer_with result job.now.held ≡ transfer_of (job_of job.now) }
@@ -61,7 +63,27 @@ fn blocks_of<'a>(serving: Serving<'a>, block: u16) -> BlocksLook
     }
 }
 
+fn missing_of<'a>(serving: Serving<'a>) -> NumberSet
+    requires { length (held_in (serving_of serving)) ≤ 256 }
+    ensures { result ≡ missing (held_in (serving_of serving.entry)) }
+{
+    match serving {
+        Serving::NoJob => NumberSet::new(0),
+        Serving::Lacking(job) | Serving::Whole(job) => job.held.missing(),
+    }
+}
+
 impl State {
+    /// The set of the blocks that are missing; the empty set below 0 where there is no job to serve.
+    pub fn blocks_missing(&self) -> NumberSet
+        requires { IsNodeState (state_of self.now) }
+        ensures missing { result ≡ missing (held_by (state_of self.now)) }
+        ensures few { length result ≤ 256 }
+    {
+        let phase = update_phase(&self.job, self.session.rest.link);
+        missing_of(serving_at(phase))
+    }
+
     /// What a Block Start looks at of the blocks.
     pub fn blocks_look(&self, block: u16) -> BlocksLook
         requires { IsNodeState (state_of self.now) }
